@@ -1,0 +1,27 @@
+-- The bits of an i32. Assumes nothing.
+use mathlib.Core.Path.{_≡_, ap, subst⁻¹, _∙_}
+use borrow.Author.Needs.{needs}
+use Prim.Native.Nat.{ℕ, _<_}
+use mir.Syntax.{w64}
+use mir.Facts.{toZ-ofZ}
+use lib.Dec.{lit<}
+use Rattle.ec20.specs.Numbers.{low}
+use Rattle.ints.proofs.Parts.{said}
+use Rattle.ints.proofs.TwosLaws.{low-lt}
+use Rattle.ints.proofs.bits32.Statement.{statement}
+use Rattle.ints.proofs.bits32.Tie as tie
+
+wide32-requires : tie.Need-wide32-requires
+wide32-requires c κs = search needs
+
+bits-requires : tie.Need-bits-requires
+bits-requires c κs = search needs
+
+returns : tie.Need-returns
+returns c =
+    let e : c .bits .result ≡ low 4294967296 (c .before .before .args .x) =
+    c .bits .ensures ∙ ap (low 4294967296) (said w64 (c .before .wide32 .ok) (c .before .wide32 .ensures ∙ toZ-ofZ (c .before .before .fits .x))) in
+    (e, subst⁻¹ (λ (k : ℕ). k < 4294967296) e (low-lt 4294967296 (c .before .before .args .x) (lit< tt)))
+
+pub bits32-spec : {M : Type 1} → statement M
+bits32-spec = tie.close (tie.spec wide32-requires bits-requires returns)
