@@ -12,8 +12,9 @@ pub mod Table
 pub mod File
 -- Operands: 2, 3, 4, and the first bad record
 pub mod Operands
--- Records as instructions, a file as a program
+-- Records as instructions, a file as a program, and what loops and jumps see of it
 pub mod Code
+pub mod Control
 -- The rung rule (5), loops and W (6, 8), labels (7), and the check over them
 pub mod Rung
 pub mod Loops

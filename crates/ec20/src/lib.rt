@@ -71,10 +71,33 @@ pub struct Rung {
     pub branches: usize,
 }
 
-// What a record asks of the walker of a sequence.
-pub enum Act {
+// A record as loops and jumps see it: FOR with its passes, NEXT, CJ and LBL with their label, END, and all others.
+pub enum Control {
     Plain,
-    Enter,
+    Opens(usize),
+    Closes,
+    Jumps(usize),
+    Marks(usize),
+    Ends,
+}
+
+// What a search gives.
+pub enum Found {
+    At(usize),
+    Nowhere,
+}
+
+// What a record does to a search: it is the one, it ends the body searched, or the search goes on so deep in loops inside it.
+pub enum Turn {
+    Hit,
+    Stop,
+    On(usize),
+}
+
+// What a record asks of the walker of a sequence: to go on, to enter a loop of so many passes, to leave one, to finish, to refuse.
+pub enum Act {
+    Go,
+    Enter(usize),
     Leave,
     Finish,
     Refuse,
@@ -143,12 +166,6 @@ pub struct Mapped {
     pub at: usize,
     pub read: [u8; 1000],
     pub written: [u8; 1000],
-}
-
-// The lowest place, or none.
-pub enum Found {
-    At(usize),
-    Nowhere,
 }
 
 pub enum Moved {
