@@ -20,6 +20,12 @@ pub struct Row {
 
 // ---- the file
 
+// The frame of a file: the byte at which the first record begins, and how many there are; or broken.
+pub enum Frame {
+    Whole { first: usize, count: usize },
+    Broken,
+}
+
 // Kinds: 0 none, 1 constant, 2 X, 3 Y, 4 M, 5 SM, 6 T, 7 D, 8 label. value: the four bytes, as an unsigned number.
 pub struct Operand {
     pub kind: usize,

@@ -1,0 +1,2 @@
+-- The frame's laws.
+pub mod FrameLaws

@@ -1,0 +1,2 @@
+-- The ranges of what is read from a file.
+pub mod Ranges
