@@ -1,0 +1,13 @@
+use Rattle.ec20.specs.Operands.{allowedWord}
+use borrow.Author.Needs.{needs}
+use Rattle.faults.proofs.allowed_word.Statement.{statement}
+use Rattle.faults.proofs.allowed_word.Tie as tie
+
+returns : tie.Need-returns
+unfolding allowedWord
+returns c = cc
+
+pub allowed-word-spec : {M : Type 1} → statement M
+allowed-word-spec =
+    tie.close
+    (tie.spec (λ c κs. search needs) (λ c κs. search needs) (λ c κs. search needs) (λ c κs. search needs) returns)

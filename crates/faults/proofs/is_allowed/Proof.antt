@@ -1,0 +1,12 @@
+use Rattle.ec20.specs.Operands.{allowed}
+use borrow.Author.Needs.{needs}
+use Rattle.faults.proofs.is_allowed.Statement.{statement}
+use Rattle.faults.proofs.is_allowed.Tie as tie
+
+returns : tie.Need-returns
+unfolding allowed
+returns c = cc
+
+pub is-allowed-spec : {M : Type 1} → statement M
+is-allowed-spec =
+    tie.close (tie.spec (λ c κs. search needs) (λ c κs. search needs) (λ c κs. search needs) returns)

@@ -1,0 +1,19 @@
+use Rattle.ec20.specs.Operands.{isBitRead}
+use borrow.Author.Needs.{needs}
+use Rattle.faults.proofs.is_bit_read.Statement.{statement}
+use Rattle.faults.proofs.is_bit_read.Tie as tie
+
+returns : tie.Need-returns
+unfolding isBitRead
+returns c = cc
+
+pub is-bit-read-spec : {M : Type 1} → statement M
+is-bit-read-spec =
+    tie.close
+    (tie.spec
+    (λ c κs. search needs)
+    (λ c κs. search needs)
+    (λ c κs. search needs)
+    (λ c κs. search needs)
+    (λ c κs. search needs)
+    returns)

@@ -1,0 +1,12 @@
+use Rattle.ec20.specs.Operands.{isTarget}
+use borrow.Author.Needs.{needs}
+use Rattle.faults.proofs.is_target.Statement.{statement}
+use Rattle.faults.proofs.is_target.Tie as tie
+
+returns : tie.Need-returns
+unfolding isTarget
+returns c = cc
+
+pub is-target-spec : {M : Type 1} → statement M
+is-target-spec =
+    tie.close (tie.spec (λ c κs. search needs) (λ c κs. search needs) (λ c κs. search needs) (λ c κs. search needs) returns)

@@ -1,0 +1,249 @@
+// What the instruction table allows of a record: refusals 2, 3 and 4, and the first record that is refused by one of them.
+ghost use Prim.Native.Nat.{_+_, _*_, _-_, _<_, _≤_, _^_};
+ghost use Rattle.ec20.specs.Devices.{ec20, limitOf, meetsWork};
+ghost use Rattle.ec20.specs.File.{recordsFrom, recordFrom};
+ghost use Rattle.ec20.specs.Numbers.{half, between, signed};
+ghost use Rattle.ec20.specs.Operands.{inRange, oneOf, constantIn, groupIn, wordsIn, isUnused, isBitRead, isBitWritten, isSource, isTarget, allowedBit, allowedWord, allowedOther, allowed, inWork, operandsOk, targetInWork, faultOf, faultIn, firstBad};
+ghost use Rattle.records.specs.Ranges.{Small, SmallRec, Held};
+ghost use lib.IntN.{pos, negℤ};
+ghost use lib.ListN.{length};
+ghost use mathlib.Core.Path.{_≡_};
+use ec20::Judged;
+use ec20::Operand;
+use ec20::Place;
+use ec20::Rec;
+use ec20::Row;
+
+// How many numbers each kind has: none, constant, X, Y, M, SM, T, D, label.
+const LIMITS: [usize; 9] = [0, 0, 256, 256, 2000, 256, 256, 8000, 128];
+
+fn limit(kind: usize) -> usize
+    ensures { λ r. ⌜ (r ≡ limitOf ec20 kind) ⌝ }
+{
+    if kind < 9 { LIMITS[kind] } else { 0 }
+}
+
+// n devices from the operand's number on lie in the device's range.
+fn in_range(n: usize, o: Operand) -> bool
+    requires { ⌜ (n < 2 ^ 32) × Small o ⌝ }
+    ensures { λ r. ⌜ r ≡ inRange ec20 n o ⌝ }
+{
+    o.value + n <= limit(o.kind)
+}
+
+// One device of kind k.
+fn one_of(k: usize, o: Operand) -> bool
+    requires { ⌜ Small o ⌝ }
+    ensures { λ r. ⌜ r ≡ oneOf ec20 k o ⌝ }
+{
+    (o.kind == k) & (o.group == 0) & in_range(1, o)
+}
+
+// The bits v, read as two's complement, are from -h to h - 1.
+fn fits_signed(h: usize, v: usize) -> bool
+    requires { ⌜ (0 < h) × (h ≤ 2 ^ 31) × (v < 2 ^ 32) ⌝ }
+    ensures { λ r. ⌜ r ≡ between (negℤ (pos h)) (pos (h - 1)) (signed (2 ^ 31) v) ⌝ }
+{
+    (v < h) | (4294967296 - h <= v)
+}
+
+// The bits v, read as two's complement, are from a to 32767.
+fn fits_from(a: usize, v: usize) -> bool
+    requires { ⌜ v < 2 ^ 32 ⌝ }
+    ensures { λ r. ⌜ r ≡ between (pos a) (pos 32767) (signed (2 ^ 31) v) ⌝ }
+{
+    (a <= v) & (v <= 32767)
+}
+
+// A constant from -h to h - 1.
+fn constant_signed(h: usize, o: Operand) -> bool
+    requires { ⌜ (0 < h) × (h ≤ 2 ^ 31) × Small o ⌝ }
+    ensures { λ r. ⌜ r ≡ constantIn (negℤ (pos h)) (pos (h - 1)) o ⌝ }
+{
+    (o.kind == 1) & (o.group == 0) & fits_signed(h, o.value)
+}
+
+// A constant from a to 32767.
+fn constant_from(a: usize, o: Operand) -> bool
+    requires { ⌜ Small o ⌝ }
+    ensures { λ r. ⌜ r ≡ constantIn (pos a) (pos 32767) o ⌝ }
+{
+    (o.kind == 1) & (o.group == 0) & fits_from(a, o.value)
+}
+
+// A group of X, Y or M of n = 1 to a quarter of w bits.
+fn group_in(w: usize, o: Operand) -> bool
+    requires { ⌜ Small o ⌝ }
+    ensures { λ r. ⌜ r ≡ groupIn ec20 w o ⌝ }
+{
+    (1 <= o.group) & (4 * o.group <= w) & in_range(4 * o.group, o)
+}
+
+// e words of D.
+fn words_in(e: usize, o: Operand) -> bool
+    requires { ⌜ (e < 2 ^ 32) × Small o ⌝ }
+    ensures { λ r. ⌜ r ≡ wordsIn ec20 e o ⌝ }
+{
+    (o.kind == 7) & (o.group == 0) & in_range(e, o)
+}
+
+fn is_unused(o: Operand) -> bool
+    ensures { λ r. ⌜ r ≡ isUnused o ⌝ }
+{
+    (o.kind == 0) & (o.group == 0) & (o.value == 0)
+}
+
+fn is_bit_read(o: Operand) -> bool
+    requires { ⌜ Small o ⌝ }
+    ensures { λ r. ⌜ r ≡ isBitRead ec20 o ⌝ }
+{
+    one_of(2, o) | one_of(3, o) | one_of(4, o) | one_of(5, o) | one_of(6, o)
+}
+
+fn is_bit_written(o: Operand) -> bool
+    requires { ⌜ Small o ⌝ }
+    ensures { λ r. ⌜ r ≡ isBitWritten ec20 o ⌝ }
+{
+    one_of(3, o) | one_of(4, o)
+}
+
+// One more than the largest number of w bits.
+fn half_of(w: usize) -> usize
+    ensures { λ r. ⌜ (r ≡ half w) × (0 < r) × (r ≤ 2 ^ 31) ⌝ }
+{
+    if w == 16 { 32768 } else { 2147483648 }
+}
+
+fn is_source(p: Place, o: Operand) -> bool
+    requires { ⌜ Small o ⌝ }
+    ensures { λ r. ⌜ r ≡ isSource ec20 p o ⌝ }
+{
+    let w = records::wide(p.width);
+    let e = records::wide(p.extent);
+    constant_signed(half_of(w), o)
+        | (((o.kind == 2) | (o.kind == 3) | (o.kind == 4)) & group_in(w, o))
+        | ((w == 16) & one_of(6, o))
+        | words_in(e, o)
+}
+
+fn is_target(p: Place, o: Operand) -> bool
+    requires { ⌜ Small o ⌝ }
+    ensures { λ r. ⌜ r ≡ isTarget ec20 p o ⌝ }
+{
+    let w = records::wide(p.width);
+    let e = records::wide(p.extent);
+    (((o.kind == 3) | (o.kind == 4)) & group_in(w, o)) | words_in(e, o)
+}
+
+// No operand, a bit that is read, a bit that is written.
+fn allowed_bit(p: Place, o: Operand) -> bool
+    requires { ⌜ Small o ⌝ }
+    ensures { λ r. ⌜ r ≡ allowedBit ec20 p o ⌝ }
+{
+    ((p.role == 0) & is_unused(o))
+        | ((p.role == 1) & is_bit_read(o))
+        | ((p.role == 2) & is_bit_written(o))
+}
+
+// A source, a target, a target that is also read, quotient and remainder.
+fn allowed_word(p: Place, o: Operand) -> bool
+    requires { ⌜ Small o ⌝ }
+    ensures { λ r. ⌜ r ≡ allowedWord ec20 p o ⌝ }
+{
+    let e = records::wide(p.extent);
+    ((p.role == 3) & is_source(p, o))
+        | (((p.role == 4) | (p.role == 5)) & is_target(p, o))
+        | ((p.role == 6) & words_in(e, o))
+}
+
+// A timer, its units, the passes of a loop, a label.
+fn allowed_other(p: Place, o: Operand) -> bool
+    requires { ⌜ Small o ⌝ }
+    ensures { λ r. ⌜ r ≡ allowedOther ec20 p o ⌝ }
+{
+    ((p.role == 7) & one_of(6, o))
+        | ((p.role == 8) & constant_from(1, o))
+        | ((p.role == 9) & constant_from(0, o))
+        | ((p.role == 10) & one_of(8, o))
+}
+
+pub fn is_allowed(p: Place, o: Operand) -> bool
+    requires { ⌜ Small o ⌝ }
+    ensures { λ r. ⌜ r ≡ allowed ec20 p o ⌝ }
+{
+    allowed_bit(p, o) | allowed_word(p, o) | allowed_other(p, o)
+}
+
+// n words from a on meet WORK.
+pub fn meets_work(a: usize, n: usize) -> bool
+    requires { ⌜ (a < 2 ^ 33) × (n < 2 ^ 33) ⌝ }
+    ensures { λ r. ⌜ r ≡ meetsWork ec20 a n ⌝ }
+{
+    (a < 8000) & (7900 < a + n)
+}
+
+// The operand is a target whose extent meets WORK.
+fn in_work(p: Place, o: Operand) -> bool
+    requires { ⌜ Small o ⌝ }
+    ensures { λ r. ⌜ r ≡ inWork ec20 p o ⌝ }
+{
+    ((p.role == 4) | (p.role == 5) | (p.role == 6))
+        & (o.kind == 7)
+        & meets_work(o.value, records::wide(p.extent))
+}
+
+// Each operand is as the table allows.
+fn operands_ok(w: Row, r: Rec) -> bool
+    requires { ⌜ SmallRec r ⌝ }
+    ensures { λ t. ⌜ t ≡ operandsOk ec20 w r ⌝ }
+{
+    is_allowed(w.first, r.first) & is_allowed(w.second, r.second) & is_allowed(w.third, r.third)
+}
+
+fn target_in_work(w: Row, r: Rec) -> bool
+    requires { ⌜ SmallRec r ⌝ }
+    ensures { λ t. ⌜ t ≡ targetInWork ec20 w r ⌝ }
+{
+    in_work(w.first, r.first) | in_work(w.second, r.second) | in_work(w.third, r.third)
+}
+
+// The number that refuses the record by its row: 2, 3, 4, or 0 for none.
+fn fault_of(w: Row, r: Rec) -> usize
+    requires { ⌜ SmallRec r ⌝ }
+    ensures { λ n. ⌜ n ≡ faultOf ec20 w r ⌝ }
+{
+    if w.known & (r.spare == 0) {
+        if operands_ok(w, r) {
+            if target_in_work(w, r) {
+                return 4;
+            }
+            return 0;
+        }
+        return 3;
+    }
+    2
+}
+
+// The number that refuses the record.
+pub fn fault_in(r: Rec) -> usize
+    requires { ⌜ SmallRec r ⌝ }
+    ensures { λ n. ⌜ n ≡ faultIn ec20 r ⌝ }
+{
+    fault_of(instructions::row_of(r.number), r)
+}
+
+// The first of the records that breaks 2, 3 or 4.
+pub fn first_bad(f: &[u8], first: usize, count: usize) -> Judged
+    requires { ⌜ Held (length (now f)) first count ⌝ }
+    ensures { λ r. ⌜ r ≡ firstBad ec20 (recordsFrom (now (f .entry)) first count) ⌝ }
+{
+    let mut k = 0;
+    while k < count {
+        let n = fault_in(records::record_from(f, first + 20 * k));
+        if n != 0 {
+            return Judged::Fault(n, k);
+        }
+        k += 1;
+    }
+    Judged::Fine
+}
