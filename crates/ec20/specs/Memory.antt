@@ -53,7 +53,7 @@ withD c l = memory (c .x) (c .y) (c .m) (c .sm) (c .t) l (c .tv)
 abbrev pub withT : Memory → List ℕ → List ℤ → Memory
 withT c l k = memory (c .x) (c .y) (c .m) (c .sm) l (c .d) k
 
--- the bits of a kind
+-- the bits of a kind; T contacts for all that are not X, Y, M or SM
 unfoldable pub bitsOf : ℕ → Memory → List ℕ
 bitsOf k c = pick (eqb k kindX) (c .x) (pick (eqb k kindY) (c .y) (pick (eqb k kindM) (c .m) (pick (eqb k kindSM) (c .sm) (c .t))))
 

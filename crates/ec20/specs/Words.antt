@@ -54,7 +54,8 @@ negOf h a = pick (isLowest h a) (failure 2) (value (negℤ a))
 abbrev pub is : ℕ → ℕ → ℕ → Bool
 is n a b = eqb n a || eqb n b
 
--- What instruction n comes to, of its sources a and b. "INC, DEC, DINC, DDEC wrap"; "DMUL stores the low 32 bits".
+-- What instruction n comes to, of its sources a and b. "INC, DEC, DINC, DDEC wrap." "DMUL stores the low 32 bits." "Only ADD, SUB, DADD, DSUB,
+-- SQT and DSQT touch flags (ours)." The last line is 32 and 48, MOV and DMOV: the source.
 unfoldable pub computeOf : ℕ → ℕ → ℤ → ℤ → Outcome
 computeOf n h a b =
     pick (is n 33 49) (sumOf h (a +ℤ b))

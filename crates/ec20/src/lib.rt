@@ -10,9 +10,11 @@ pub struct Place {
     pub extent: u8,
 }
 
-// The row of an instruction number.
+// The row of an instruction number: whether there is one, which form of instruction it makes (specs/Table.antt names the forms), and the
+// places of its operands.
 pub struct Row {
     pub known: bool,
+    pub form: u8,
     pub first: Place,
     pub second: Place,
     pub third: Place,
@@ -42,8 +44,8 @@ pub struct Rec {
     pub third: Operand,
 }
 
-// A record as an instruction. The first number is the instruction's own, where a
-// case holds more than one. Timer: the timer's number, its constant. For: the passes. Jump, Label: the label. Word: two sources, a target.
+// A record as an instruction. Contact, Compare, Join, Branch, Coil, Word: first the instruction's number, then its operands (Word: two
+// sources, a target). Timer: the timer's number, its constant. For: the passes. Jump, Label: the label.
 pub enum Instr {
     Nop,
     Contact(usize, Operand),
@@ -115,6 +117,7 @@ pub enum Walked {
     Bad(usize),
 }
 
+// steps: W.
 pub enum Verdict {
     Accepted { records: usize, steps: usize },
     Refused { number: usize, record: usize },

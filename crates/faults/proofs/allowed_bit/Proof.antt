@@ -1,3 +1,4 @@
+use mathlib.Core.Path.{refl}
 use Rattle.ec20.specs.Operands.{allowedBit}
 use borrow.Author.Needs.{needs}
 use Rattle.faults.proofs.allowed_bit.Statement.{statement}
@@ -5,7 +6,7 @@ use Rattle.faults.proofs.allowed_bit.Tie as tie
 
 returns : tie.Need-returns
 unfolding allowedBit
-returns c = cc
+returns c = rw (c .before .before .before .before .is-unused .ensures, c .before .before .is-bit-read .ensures, c .is-bit-written .ensures) refl
 
 pub allowed-bit-spec : {M : Type 1} → statement M
 allowed-bit-spec =

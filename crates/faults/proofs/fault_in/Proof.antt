@@ -1,3 +1,4 @@
+use mathlib.Core.Path.{refl}
 use Rattle.ec20.specs.Operands.{faultIn}
 use borrow.Author.Needs.{needs}
 use Rattle.faults.proofs.fault_in.Statement.{statement}
@@ -5,7 +6,7 @@ use Rattle.faults.proofs.fault_in.Tie as tie
 
 returns : tie.Need-returns
 unfolding faultIn
-returns c = cc
+returns c = rw (c .fault-of .ensures, c .before .row-of .ensures) refl
 
 pub fault-in-spec : {M : Type 1} → statement M
 fault-in-spec = tie.close (tie.spec (λ c κs. search needs) (λ c κs. search needs) returns)

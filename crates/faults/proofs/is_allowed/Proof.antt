@@ -1,3 +1,4 @@
+use mathlib.Core.Path.{refl}
 use Rattle.ec20.specs.Operands.{allowed}
 use borrow.Author.Needs.{needs}
 use Rattle.faults.proofs.is_allowed.Statement.{statement}
@@ -5,7 +6,7 @@ use Rattle.faults.proofs.is_allowed.Tie as tie
 
 returns : tie.Need-returns
 unfolding allowed
-returns c = cc
+returns c = rw (c .before .before .allowed-bit .ensures, c .before .allowed-word .ensures, c .allowed-other .ensures) refl
 
 pub is-allowed-spec : {M : Type 1} → statement M
 is-allowed-spec =

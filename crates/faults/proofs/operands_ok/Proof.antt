@@ -1,3 +1,4 @@
+use mathlib.Core.Path.{refl}
 use Rattle.ec20.specs.Operands.{operandsOk}
 use borrow.Author.Needs.{needs}
 use Rattle.faults.proofs.operands_ok.Statement.{statement}
@@ -5,7 +6,7 @@ use Rattle.faults.proofs.operands_ok.Tie as tie
 
 returns : tie.Need-returns
 unfolding operandsOk
-returns c = cc
+returns c = rw (c .before .before .is-allowed .ensures, c .before .is-allowed2 .ensures, c .is-allowed3 .ensures) refl
 
 pub operands-ok-spec : {M : Type 1} → statement M
 operands-ok-spec =

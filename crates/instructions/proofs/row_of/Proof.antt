@@ -1,4 +1,4 @@
--- The constant table is the definition's: each row's ten cells, computed once over the whole table, make the row again.
+-- The constant table is the definition's: each row's eleven cells, computed once over the whole table, make the row again.
 use borrow.Author.Needs.{needs}
 use native.Mathlib.Omega.{arith}
 use mathlib.Core.Path.{_≡_, sym, ap, _∙_}
@@ -12,18 +12,18 @@ use Rattle.ec20.specs.declared.Row.{Row}
 use Rattle.instructions.proofs.row_of.Statement.{statement}
 use Rattle.instructions.proofs.row_of.Tie as tie
 
--- the row that ten cells say
+-- the row that eleven cells say
 abbrev made : List ℕ → Row
-made t = record { known = eqb (getD t 0 0) 1; first = place (getD t 1 0) (getD t 2 0) (getD t 3 0); second = place (getD t 4 0) (getD t 5 0) (getD t 6 0); third = place (getD t 7 0) (getD t 8 0) (getD t 9 0) }
+made t = record { known = eqb (getD t 0 0) 1; form = getD t 1 0; first = place (getD t 2 0) (getD t 3 0) (getD t 4 0); second = place (getD t 5 0) (getD t 6 0) (getD t 7 0); third = place (getD t 8 0) (getD t 9 0) (getD t 10 0) }
 
 bit : Bool → ℕ
 bit true = 1
 bit false = 0
 
--- the ten cells of a row
+-- the eleven cells of a row
 cellsOf : Row → List ℕ
 cellsOf r =
-    bit (r .known)
+    bit (r .known) ∷ r .form
     ∷ r .first .role ∷ r .first .width ∷ r .first .extent
     ∷ r .second .role ∷ r .second .width ∷ r .second .extent
     ∷ r .third .role ∷ r .third .width ∷ r .third .extent ∷ []
@@ -40,6 +40,7 @@ pub row-of-spec : {M : Type 1} → statement M
 row-of-spec =
     tie.close
     (tie.spec
+    (λ c. search needs)
     (λ c. search needs)
     (λ c. search needs)
     (λ c. search needs)

@@ -1,0 +1,129 @@
+-- The theorems hold of a real file: a loop with a FOR 0 over a loop inside it, a jump over a loop, inside the loop and outside it.
+use Prim.Native.Nat.{ℕ, zero, suc, _<_, _≤_}
+use mathlib.Core.Bool.{true, false}
+use mathlib.Core.List.{List, [], _∷_}
+use mathlib.Core.Path.{_≡_, refl}
+use native.Mathlib.Omega.{arith}
+use lib.ListN.{replicate}
+use Rattle.ec20.specs.declared.Verdict.the-variants.{Accepted}
+use Rattle.ec20.specs.declared.Control.the-variants.{Jumps}
+use Rattle.ec20.specs.Devices.{ec20}
+use Rattle.ec20.specs.Check.{checkFor, checkOf}
+use Rattle.ec20.specs.Code.{programOf}
+use Rattle.ec20.specs.Control.{controlsOf}
+use Rattle.ec20.specs.Labels.{labelFault, Stands}
+use Rattle.ec20.specs.Memory.{Memory, memory}
+use Rattle.ec20.specs.Scan.{runOf, startWorld, fitting, scanOf}
+use Rattle.ec20.proofs.Computing.{computing}
+use Rattle.ec20.proofs.Files.{K, X, Y, M, SM, D, L, r0, r1, file, blank}
+use Rattle.bound.specs.Scans.{EndsIn}
+use Rattle.bound.proofs.LabelRule.{label-rule}
+use Rattle.bound.proofs.Accepted.{accepted-right}
+use Rattle.bound.proofs.Theorem.{at-most-w, no-jumps, scan-of-ends}
+
+abbrev FOR : ℕ → List ℕ
+FOR n = r1 19 (K n)
+
+abbrev NEXT : List ℕ
+NEXT = r0 20
+
+abbrev LD : List ℕ → List ℕ
+LD o = r1 1 o
+
+abbrev CJ : ℕ → List ℕ
+CJ l = r1 21 (L l)
+
+abbrev LBL : ℕ → List ℕ
+LBL l = r1 22 (L l)
+
+abbrev real : List ℕ
+real =
+    file (
+    FOR 3
+    ∷ LD (X 0)
+    ∷ r1 12 (Y 0)
+    ∷ FOR 0
+    ∷ FOR 5
+    ∷ r0 0
+    ∷ NEXT
+    ∷ NEXT
+    ∷ LD (X 1)
+    ∷ CJ 1
+    ∷ FOR 4
+    ∷ r0 0
+    ∷ NEXT
+    ∷ LBL 1
+    ∷ NEXT
+    ∷ LD (M 0)
+    ∷ CJ 2
+    ∷ FOR 2
+    ∷ r0 0
+    ∷ NEXT
+    ∷ LBL 2
+    ∷ r0 23
+    ∷ [])
+
+-- it is accepted: 22 records, W 58
+real-ok : checkFor ec20 real ≡ Accepted 22 58
+unfolding computing
+real-ok = refl
+
+-- so, whatever memory, elapsed units and budget are, no scan of it makes more than 58 steps
+real-most : (e b : ℕ) (c : Memory) → runOf (programOf real) e b 0 (startWorld c) .steps ≤ 58
+real-most e b c = at-most-w ec20 real 22 58 real-ok e c b
+
+-- and with a budget of 58 the answer of memory that fits is "ended"
+blank-fits : fitting ec20 7 blank ≡ true
+unfolding computing
+blank-fits = refl
+
+real-ends : EndsIn (scanOf real 7 58 blank .answer) 22 58
+unfolding checkOf
+real-ends = scan-of-ends real 22 58 real-ok 7 58 blank (omega arith) blank-fits
+
+-- no jump taken: X1 and M0 are off
+none-taken : runOf (programOf real) 0 60 0 (startWorld blank) .steps ≡ 58
+unfolding computing
+none-taken = refl
+
+-- both jumps taken
+on : Memory
+on = memory (2 ∷ replicate 31 0) (blank .y) (1 ∷ replicate 249 0) (blank .sm) (blank .t) (blank .d) (blank .tv)
+
+both-taken : runOf (programOf real) 0 60 0 (startWorld on) .steps ≡ 26
+unfolding computing on
+both-taken = refl
+
+-- the first CJ's label stands where it must, and so the check finds no fault in it
+real-stands : Stands (controlsOf (programOf real)) 22 9 1 13
+unfolding computing
+real-stands = record { first = refl; later = omega arith; body = refl }
+
+real-jumps : controlsOf (programOf real) 9 ≡ Jumps 1
+unfolding computing
+real-jumps = refl
+
+real-label : labelFault (controlsOf (programOf real)) 22 9 (Jumps 1) ≡ false
+real-label =
+    let walks = accepted-right ec20 real 22 58 real-ok .walks in
+    label-rule (controlsOf (programOf real)) 22 22 58 walks 9 1 (omega arith) real-jumps .1 13 real-stands
+
+-- T9 has no CJ: just W steps, whatever memory is
+abbrev t9 : List ℕ
+t9 = file (FOR 3 ∷ LD (SM 0) ∷ r1 37 (D 0) ∷ NEXT ∷ r0 23 ∷ [])
+
+t9-ok : checkFor ec20 t9 ≡ Accepted 5 11
+unfolding computing
+t9-ok = refl
+
+t9-straight : (k l : ℕ) → k < 5 → controlsOf (programOf t9) k ≡ Jumps l → ⊥
+unfolding computing
+t9-straight zero l h e = let z : _≡_ {A = ℕ} 0 1 = cc in omega arith
+t9-straight (suc zero) l h e = let z : _≡_ {A = ℕ} 0 1 = cc in omega arith
+t9-straight (suc (suc zero)) l h e = let z : _≡_ {A = ℕ} 0 1 = cc in omega arith
+t9-straight (suc (suc (suc zero))) l h e = let z : _≡_ {A = ℕ} 0 1 = cc in omega arith
+t9-straight (suc (suc (suc (suc zero)))) l h e = let z : _≡_ {A = ℕ} 0 1 = cc in omega arith
+t9-straight (suc (suc (suc (suc (suc k))))) l h e = omega arith
+
+t9-steps : (e b : ℕ) (c : Memory) → 11 ≤ b → runOf (programOf t9) e b 0 (startWorld c) .steps ≡ 11
+t9-steps e b c h = no-jumps ec20 t9 5 11 t9-ok e c b h t9-straight
