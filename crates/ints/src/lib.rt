@@ -1,13 +1,14 @@
 // Leaf operations on signed numbers: each states its result in ℤ, so that a caller's proof sees no bits.
 ghost use mathlib.Core.Path.{_≡_};
-ghost use Prim.Native.Nat.{_+_, _<_, _^_};
-ghost use Rattle.ec20.specs.Numbers.{low, signed, wrap, isZero, isAbove, isBelow};
-ghost use lib.IntN.{pos, _+ℤ_, _-ℤ_, _*ℤ_};
-ghost use lib.Signed.{ltZ, quotZ, remZ};
+ghost use Prim.Native.Nat.{_+_, _<_, _≤_, _^_};
+ghost use Rattle.ec20.specs.Numbers.{low, signed, wrap, isZero, isAbove, isBelow, isLowest};
+ghost use lib.IntN.{pos, negℤ, _+ℤ_, _-ℤ_, _*ℤ_};
+ghost use lib.Signed.{ltZ, mag, quotZ, remZ};
 ghost use mir.Syntax.{w16, w32, w64};
 ghost use mir.Val.{SFits};
 ghost use mathlib.Core.Bool.{false};
 
+// A 16-bit and a 32-bit number as a 64-bit one, and back.
 pub fn wide16(x: i16) -> i64
     ensures { λ r. ⌜ r ≡ x ⌝ }
 {
@@ -34,6 +35,7 @@ pub fn narrow32(x: i64) -> i32
     x as i32
 }
 
+// The sum, the difference, the opposite and the product, where they fit.
 pub fn plus(a: i64, b: i64) -> i64
     requires { ⌜ SFits w64 (a +ℤ b) ⌝ }
     ensures { λ r. ⌜ r ≡ a +ℤ b ⌝ }
@@ -48,6 +50,13 @@ pub fn minus(a: i64, b: i64) -> i64
     a - b
 }
 
+pub fn opposite(z: i64) -> i64
+    requires { ⌜ SFits w64 (negℤ z) ⌝ }
+    ensures { λ r. ⌜ r ≡ negℤ z ⌝ }
+{
+    -z
+}
+
 pub fn times(a: i64, b: i64) -> i64
     requires { ⌜ SFits w64 (a *ℤ b) ⌝ }
     ensures { λ r. ⌜ r ≡ a *ℤ b ⌝ }
@@ -55,12 +64,14 @@ pub fn times(a: i64, b: i64) -> i64
     a * b
 }
 
+// Whether a is below b.
 pub fn less(a: i64, b: i64) -> bool
     ensures { λ r. ⌜ r ≡ ltZ a b ⌝ }
 {
     a < b
 }
 
+// An unsigned number as a signed one, and a signed one that is not below 0 as an unsigned one.
 pub fn whole(u: u64) -> i64
     requires { ⌜ u < 2 ^ 63 ⌝ }
     ensures { λ r. ⌜ r ≡ pos u ⌝ }
@@ -100,6 +111,7 @@ pub fn of_bits(u: u64, h: u64) -> i64
     }
 }
 
+// Whether z is 0.
 pub fn is_zero(z: i64) -> bool
     ensures { λ r. ⌜ r ≡ isZero z ⌝ }
 {
@@ -142,6 +154,14 @@ pub fn wrapped(z: i64, h: u64) -> i64
     of_bits(bits(z, h + h), h)
 }
 
+// The lowest number of the range from -h to h - 1.
+pub fn lowest(h: u64) -> i64
+    requires { ⌜ h < 2 ^ 63 ⌝ }
+    ensures { λ r. ⌜ r ≡ negℤ (pos h) ⌝ }
+{
+    opposite(whole(h))
+}
+
 // Whether z is above, and whether it is below, the range from -h to h - 1.
 pub fn is_above(z: i64, h: u64) -> bool
     requires { ⌜ h < 2 ^ 63 ⌝ }
@@ -154,7 +174,15 @@ pub fn is_below(z: i64, h: u64) -> bool
     requires { ⌜ h < 2 ^ 63 ⌝ }
     ensures { λ r. ⌜ r ≡ isBelow h z ⌝ }
 {
-    less(z, minus(0, whole(h)))
+    less(z, lowest(h))
+}
+
+// Whether z is the lowest number of the range from -h to h - 1.
+pub fn is_lowest(z: i64, h: u64) -> bool
+    requires { ⌜ h < 2 ^ 63 ⌝ }
+    ensures { λ r. ⌜ r ≡ isLowest h z ⌝ }
+{
+    !less(lowest(h), z)
 }
 
 // The quotient rounded toward zero, and the remainder with the dividend's sign.
@@ -170,4 +198,18 @@ pub fn rest(a: i64, b: i64) -> i64
     ensures { λ r. ⌜ r ≡ remZ a b ⌝ }
 {
     a % b
+}
+
+// The low bits of a number z that is near the range from -h to h - 1, as a number of that range: one step of h + h takes it there.
+pub fn near(z: i64, h: u64) -> i64
+    requires { ⌜ (0 < h) × (h ≤ 2 ^ 31) × (mag z < h + h) ⌝ }
+    ensures { λ r. ⌜ r ≡ wrap h z ⌝ }
+{
+    if is_above(z, h) {
+        return minus(z, whole(h + h));
+    }
+    if is_below(z, h) {
+        return plus(z, whole(h + h));
+    }
+    z
 }

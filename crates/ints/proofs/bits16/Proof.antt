@@ -11,12 +11,6 @@ use Rattle.ints.proofs.TwosLaws.{low-lt}
 use Rattle.ints.proofs.bits16.Statement.{statement}
 use Rattle.ints.proofs.bits16.Tie as tie
 
-wide16-requires : tie.Need-wide16-requires
-wide16-requires c κs = search needs
-
-bits-requires : tie.Need-bits-requires
-bits-requires c κs = search needs
-
 returns : tie.Need-returns
 returns c =
     let e : c .bits .result ≡ low 65536 (c .before .before .args .x) =
@@ -24,4 +18,4 @@ returns c =
     (e, subst⁻¹ (λ (k : ℕ). k < 65536) e (low-lt 65536 (c .before .before .args .x) (lit< tt)))
 
 pub bits16-spec : {M : Type 1} → statement M
-bits16-spec = tie.close (tie.spec wide16-requires bits-requires returns)
+bits16-spec = tie.close (tie.spec (λ c κs. search needs) (λ c κs. search needs) returns)

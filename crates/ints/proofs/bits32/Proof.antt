@@ -11,12 +11,6 @@ use Rattle.ints.proofs.TwosLaws.{low-lt}
 use Rattle.ints.proofs.bits32.Statement.{statement}
 use Rattle.ints.proofs.bits32.Tie as tie
 
-wide32-requires : tie.Need-wide32-requires
-wide32-requires c κs = search needs
-
-bits-requires : tie.Need-bits-requires
-bits-requires c κs = search needs
-
 returns : tie.Need-returns
 returns c =
     let e : c .bits .result ≡ low 4294967296 (c .before .before .args .x) =
@@ -24,4 +18,4 @@ returns c =
     (e, subst⁻¹ (λ (k : ℕ). k < 4294967296) e (low-lt 4294967296 (c .before .before .args .x) (lit< tt)))
 
 pub bits32-spec : {M : Type 1} → statement M
-bits32-spec = tie.close (tie.spec wide32-requires bits-requires returns)
+bits32-spec = tie.close (tie.spec (λ c κs. search needs) (λ c κs. search needs) returns)

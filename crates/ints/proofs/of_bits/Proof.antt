@@ -10,26 +10,6 @@ use Rattle.ints.proofs.Parts.{said}
 use Rattle.ints.proofs.TwosLaws.{signed-small, signed-minus, signed-range}
 use Rattle.ints.proofs.of_bits.Statement.{statement}
 use Rattle.ints.proofs.of_bits.Tie as tie
-use Rattle.ints.proofs.of_bits.Reads as reads
-use Rattle.ints.proofs.of_bits.Lts as lts
-use Rattle.ints.proofs.minus.Reads as minus-reads
-use Rattle.ints.proofs.whole.Reads as whole-reads
-
--- src/lib.rt:97:9
-whole-requires : tie.Need-whole-requires
-whole-requires c κs = search needs
-
--- src/lib.rt:99:15
-whole-requires-2 : tie.Need-whole-requires-2
-whole-requires-2 c κs = search needs
-
--- src/lib.rt:99:31
-add-whole : tie.Need-add-whole
-add-whole c = search needs
-
--- src/lib.rt:99:25
-whole-requires-3 : tie.Need-whole-requires-3
-whole-requires-3 c κs = search needs
 
 -- what is subtracted, as numbers
 parts : (c : tie.After-whole3) → toZ w64 (ofZ w64 (c .before .whole2 .result)) -ℤ toZ w64 (ofZ w64 (c .whole3 .result)) ≡ signed (c .before .before .before .args .h) (c .before .before .before .args .u)
@@ -54,10 +34,10 @@ pub of-bits-spec : {M : Type 1} → statement M
 of-bits-spec =
     tie.close
     (tie.spec
-    whole-requires
-    whole-requires-2
-    add-whole
-    whole-requires-3
+    (λ c κs. search needs)
+    (λ c κs. search needs)
+    (λ c. search needs)
+    (λ c κs. search needs)
     minus-requires
     returns
     returns-2)

@@ -14,12 +14,6 @@ use Rattle.ints.proofs.wrapped.Tie as tie
 lows : (c : tie.After-bits) → c .bits .result ≡ low (c .before .args .h + c .before .args .h) (c .before .args .z)
 lows c = c .bits .ensures ∙ ap (low (c .before .args .h + c .before .args .h)) (toZ-ofZ (c .before .fits .z))
 
-add-bits : tie.Need-add-bits
-add-bits c = search needs
-
-bits-requires : tie.Need-bits-requires
-bits-requires c κs = search needs
-
 of-bits-requires : tie.Need-of-bits-requires
 of-bits-requires c κs =
     let h = c .before .args .h in
@@ -31,4 +25,4 @@ returns c =
     said w64 (c .of-bits .ok) (c .of-bits .ensures ∙ ap (signed (c .before .before .args .h)) (lows (c .before)))
 
 pub wrapped-spec : {M : Type 1} → statement M
-wrapped-spec = tie.close (tie.spec add-bits bits-requires of-bits-requires returns)
+wrapped-spec = tie.close (tie.spec (λ c. search needs) (λ c κs. search needs) of-bits-requires returns)
