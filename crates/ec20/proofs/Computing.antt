@@ -14,7 +14,7 @@ use Rattle.ec20.specs.Rung.{loadOk, actionOk, branchOk, keeps, afterLoad
 use Rattle.ec20.specs.Loops.{lastAct, midAct, actOf, plus, follow, byAct, sequenceOf}
 use Rattle.ec20.specs.Labels.{same, labelFault, rest, opensAfter, opensOf}
 use Rattle.ec20.specs.Check.{judgeProgram, judgeFile, checkFor, checkOf}
-use Rattle.ec20.specs.Memory.{sized, bitsOf, loadBit, storeBit, loadOf, storeOf}
+use Rattle.ec20.specs.Memory.{sized, bitsOf, groupBits, loadBit, storeBit, loadOf, storeOf}
 use Rattle.ec20.specs.Words.{sumOf, divOf, sqtOf, vabsOf, negOf, computeOf, withFlags, storeAll}
 use Rattle.ec20.specs.Flow.{failed, startsNow, loaded, contactOf, compareOf, joinOf, branchOf, coilOf}
 use Rattle.ec20.specs.Timers.{unitsOf, countedOf, contactIs, timerOf}
@@ -26,5 +26,5 @@ use Rattle.ec20.specs.Exchange.{swapped, exchanged, sizeFault, placeFaul
 use Rattle.ec20.specs.Answers.{toldByCheck, toldByMove, toldByExchange, toldByScan}
 
 unfoldable pub computing : ℕ
-unfolding someFrom firstAt firstFault limitOf within meets inside meetsWork signed wrap rootFrom rootOf bitAt byteWith withBit packed spread groupAt withGroup pairAt highWord lowWord withPair numberAt withNumber table rowOf u16At u32At framed frameOf operandAt recordFrom inRange oneOf constantIn groupIn wordsIn isUnused isBitRead isBitWritten isSource isTarget allowedBit allowedWord allowedOther allowed inWork isKnown operandsOk targetInWork faultOf faultIn instrBy codeOf programOf controlOf closes marks shiftOf turnOf byTurn findOf loadOk actionOk branchOk keeps afterLoad branchesAfter afterRecord brokenFrom lastAct midAct actOf plus follow byAct sequenceOf same labelFault rest opensAfter opensOf judgeProgram judgeFile checkFor checkOf sized bitsOf loadBit storeBit loadOf storeOf sumOf divOf sqtOf vabsOf negOf computeOf withFlags storeAll failed startsNow loaded contactOf compareOf joinOf branchOf coilOf unitsOf countedOf contactIs timerOf forOf closeOf jumpOf outcomeOf settle wordOf execOf stepOf runOf answerOf runScan fitting scanFor scanOf holds someOperand someRecord markedRead markedWritten packedBy mapOf mapFor useMapOf touches partly blockFault poolFault blockWork splitFault isPlace placeOf movedNumber movedInRecord movedByte movedFile judgeMove moveFor moveOf swapped exchanged sizeFault placeFault judgeExchange exchangeFor exchangeOf toldByCheck toldByMove toldByExchange toldByScan
+unfolding someFrom firstAt firstFault limitOf within meets inside meetsWork signed wrap rootFrom rootOf bitAt byteWith withBit packed spread groupAt withGroup pairAt highWord lowWord withPair numberAt withNumber table rowOf u16At u32At framed frameOf operandAt recordFrom inRange oneOf constantIn groupIn wordsIn isUnused isBitRead isBitWritten isSource isTarget allowedBit allowedWord allowedOther allowed inWork isKnown operandsOk targetInWork faultOf faultIn instrBy codeOf programOf controlOf closes marks shiftOf turnOf byTurn findOf loadOk actionOk branchOk keeps afterLoad branchesAfter afterRecord brokenFrom lastAct midAct actOf plus follow byAct sequenceOf same labelFault rest opensAfter opensOf judgeProgram judgeFile checkFor checkOf sized bitsOf groupBits loadBit storeBit loadOf storeOf sumOf divOf sqtOf vabsOf negOf computeOf withFlags storeAll failed startsNow loaded contactOf compareOf joinOf branchOf coilOf unitsOf countedOf contactIs timerOf forOf closeOf jumpOf outcomeOf settle wordOf execOf stepOf runOf answerOf runScan fitting scanFor scanOf holds someOperand someRecord markedRead markedWritten packedBy mapOf mapFor useMapOf touches partly blockFault poolFault blockWork splitFault isPlace placeOf movedNumber movedInRecord movedByte movedFile judgeMove moveFor moveOf swapped exchanged sizeFault placeFault judgeExchange exchangeFor exchangeOf toldByCheck toldByMove toldByExchange toldByScan
 computing = 0

@@ -1,6 +1,6 @@
 -- Laws of tests that every layer uses. Assumes nothing.
 use mathlib.Core.Bool.{Bool, true, false, _&&_, _||_}
-use mathlib.Core.Path.{_≡_, refl}
+use mathlib.Core.Path.{_≡_, refl, sym, _∙_}
 use mathlib.Core.Logic.{_⊎_, inl, inr}
 use Prim.Native.Nat.{ℕ}
 use native.Mathlib.Omega.{arith}
@@ -28,3 +28,7 @@ neither false b e = (refl, e)
 pub picked {ℓ} : {A : Type ℓ} (P : A → Type 0) (t : Bool) (x y : A) → (t ≡ true → P x) → (t ≡ false → P y) → P (pick t x y)
 picked P true x y f g = f refl
 picked P false x y f g = g refl
+
+-- two results that meet the same equation are equal: so it is of every contract that is one equation
+pub one-answer {ℓ} : {A : Type ℓ} {x r s : A} → r ≡ x → s ≡ x → r ≡ s
+one-answer p q = p ∙ sym q

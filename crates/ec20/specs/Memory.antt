@@ -1,5 +1,5 @@
 -- The lent memory, and what an operand reads and writes of it. "Any content is valid."
-use Prim.Native.Nat.{ℕ, _+_, _/_, _^_}
+use Prim.Native.Nat.{ℕ, _+_, _/_, _%_}
 use mathlib.Core.Bool.{Bool, true, false, _&&_}
 use mathlib.Core.List.{List}
 use lib.ListN.{length}
@@ -8,9 +8,10 @@ use lib.IntN.{ℤ}
 use Rattle.ec20.specs.declared.Operand.{Operand}
 use Rattle.ec20.specs.Basics.{pick}
 use Rattle.ec20.specs.Devices.{Device, kindConstant, kindX, kindY, kindM, kindSM, kindT, kindD}
+use Rattle.ec20.specs.Numbers.{bitsIn, half, signed}
 use Rattle.ec20.specs.Registers.{wordAt, numberAt, withNumber}
 use Rattle.ec20.specs.Bits.{bitAt, withBit, groupAt, withGroup}
-use Rattle.ec20.specs.Operands.{kindIs, constantOf}
+use Rattle.ec20.specs.Operands.{kindIs}
 
 -- bits of X, Y, M, SM and T contacts, D words, T values
 pub record Memory : Type 0 where
@@ -68,13 +69,21 @@ storeBit o b c =
     (pick (kindIs kindM o) (withM c (withBit (c .m) (o .value) b))
     c)
 
+-- the bits of a group "of X, Y or M"
+unfoldable pub groupBits : ℕ → Memory → List ℕ
+groupBits k c = pick (eqb k kindX) (c .x) (pick (eqb k kindY) (c .y) (c .m))
+
+-- a constant as a number of w bits: its low w bits, which are all of it where 3 does not refuse it
+abbrev pub constantAt : ℕ → Operand → ℤ
+constantAt w o = signed (half w) (o .value % (half w + half w))
+
 -- what a source of w bits reads: a constant, "T (its value)", D, or a group
 unfoldable pub loadOf : ℕ → Operand → Memory → ℤ
 loadOf w o c =
-    pick (kindIs kindConstant o) (constantOf o)
+    pick (kindIs kindConstant o) (constantAt w o)
     (pick (kindIs kindT o) (wordAt (c .tv) (o .value))
     (pick (kindIs kindD o) (numberAt w (c .d) (o .value))
-    (groupAt w (bitsOf (o .kind) c) (o .value) (o .group))))
+    (groupAt w (groupBits (o .kind) c) (o .value) (o .group))))
 
 -- what a target of w bits becomes: D, or a group of Y or M
 unfoldable pub storeOf : ℕ → Operand → ℤ → Memory → Memory
@@ -86,4 +95,4 @@ storeOf w o z c =
 
 -- the target that follows, for the remainder: one word on at 16 bits, two at 32
 abbrev pub following : ℕ → Operand → Operand
-following w o = record { kind = o .kind; group = o .group; value = o .value + w / 16 }
+following w o = record { kind = o .kind; group = o .group; value = o .value + bitsIn w / 16 }
