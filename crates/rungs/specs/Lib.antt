@@ -1,0 +1,2 @@
+-- What the rung rule's state stays within.
+pub mod Within

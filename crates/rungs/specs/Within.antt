@@ -1,0 +1,7 @@
+-- "Block stack and branch stack hold 8 each": where the rule is kept, neither holds more.
+use Prim.Native.Nat.{_≤_}
+use Rattle.ec20.specs.declared.Rung.{Rung}
+
+pub record Within (s : Rung) : Type 0 where
+  pub blocks : s .blocks ≤ 8
+  pub branches : s .branches ≤ 8
