@@ -1,0 +1,118 @@
+//! Scans: accepted programs over several memories and budgets, and refused calls.
+
+use crate::cases::memories::{MemorySpec, Misfit, KEPT, ONES, ZERO};
+use crate::cases::scans::ScanCase;
+use crate::compose;
+use crate::file::Record;
+use crate::generate::edge_programs;
+use crate::generate::faults::aimed;
+use crate::generate::files::{broken_frame, comment};
+use crate::generate::memories::{elapsed, memory};
+use crate::generate::program::{medium, program, small, Plan};
+use crate::generate::rng::Rng;
+use crate::generate::specials;
+use crate::memory::IMAGE;
+use crate::scan::DEFAULT_BUDGET;
+
+struct Batch {
+    cases: Vec<ScanCase>,
+    kept: Vec<u8>,
+}
+
+impl Batch {
+    fn add(&mut self, file: &[u8], memory: MemorySpec, elapsed: u32, budget: u32) {
+        let case = ScanCase::solve(file.to_vec(), memory, elapsed, budget, &mut self.kept);
+        self.cases.push(case);
+    }
+
+    /// The steps of the last case.
+    fn steps(&self) -> u32 {
+        self.cases.last().map_or(0, |case| case.answer.steps)
+    }
+
+    /// The document's own scans, and budgets around a million.
+    fn specials(&mut self, rng: &mut Rng) {
+        let zero = MemorySpec { rule: ZERO, ..MemorySpec::default() };
+        let passes = compose::file(&specials::three_passes());
+        for budget in [0, 1, 4, 10, 11, 12, u32::MAX] {
+            self.add(&passes, zero.clone(), 5, budget);
+        }
+        for steps in [u64::from(DEFAULT_BUDGET), u64::from(DEFAULT_BUDGET) + 1] {
+            let file = specials::of_steps(rng, steps);
+            self.add(&file, zero.clone(), 0, DEFAULT_BUDGET);
+        }
+    }
+
+    /// Each word instruction at its edges, over flags that are all off or all on.
+    fn edges(&mut self, rng: &mut Rng) {
+        for file in edge_programs::files(rng) {
+            let rule = rng.pick(&[ZERO, ONES]);
+            self.add(&file, MemorySpec { rule, ..MemorySpec::default() }, 0, DEFAULT_BUDGET);
+        }
+    }
+
+    /// One program: a scan, a second one on what it left, and others with tight budgets.
+    fn accepted(&mut self, rng: &mut Rng, records: &[Record]) {
+        let file = crate::file::encode(&comment(rng), records);
+        self.add(&file, memory(rng, records), elapsed(rng), DEFAULT_BUDGET);
+        let kept = MemorySpec { rule: KEPT, ..MemorySpec::default() };
+        self.add(&file, kept, elapsed(rng), rng.pick(&[DEFAULT_BUDGET, u32::MAX]));
+        self.add(&file, memory(rng, records), elapsed(rng), DEFAULT_BUDGET);
+        let steps = self.steps();
+        let again = self.cases.last().map(|case| (case.memory.clone(), case.elapsed));
+        if let Some((same, units)) = again {
+            let within = rng.below(steps);
+            let budget = rng.pick(&[0, 1, steps, steps - 1, within, within]);
+            self.add(&file, same, units, budget);
+        }
+    }
+
+    /// Refusal 9: each table in each wrong size, and elapsed units out of range.
+    fn wrong_sizes(&mut self, rng: &mut Rng, turn: usize) {
+        let records = small(rng).records;
+        let file = compose::file(&records);
+        let misfit = Misfit { table: turn as u32 % 7 + 1, way: turn as u32 / 7 % 3 };
+        let spec = memory(rng, &records);
+        self.add(&file, MemorySpec { misfit, ..spec.clone() }, elapsed(rng), DEFAULT_BUDGET);
+        let too_long = rng.pick(&[32768, 32769, 65535, 65536, u32::MAX]);
+        self.add(&file, spec, too_long, rng.pick(&[0, DEFAULT_BUDGET]));
+    }
+
+    /// Refusals 1 to 8, also where 9 holds as well.
+    fn refused(&mut self, rng: &mut Rng, turn: usize) {
+        let number = turn as u32 % 8 + 1;
+        let file = if number == 1 {
+            let records = small(rng).records;
+            broken_frame(rng, &records, turn / 8)
+        } else {
+            compose::file(&aimed(rng, number, turn / 8).records)
+        };
+        let units = if rng.once_in(3) { 40_000 } else { elapsed(rng) };
+        self.add(&file, memory(rng, &[]), units, DEFAULT_BUDGET);
+    }
+}
+
+pub fn scan_cases(rng: &mut Rng, count: usize) -> Vec<ScanCase> {
+    let mut batch = Batch { cases: Vec::new(), kept: vec![0; IMAGE] };
+    batch.specials(rng);
+    batch.edges(rng);
+    let mut turn = 0;
+    while batch.cases.len() < count {
+        match turn % 20 {
+            7 => batch.wrong_sizes(rng, turn / 20),
+            13 | 14 => batch.refused(rng, turn / 20 * 2 + turn % 2),
+            17 => {
+                let plan = Plan { records: 30, steps: 20_000, loops: 3 };
+                let records = program(rng, plan).records;
+                batch.accepted(rng, &records);
+            }
+            _ => {
+                let records = medium(rng).records;
+                batch.accepted(rng, &records);
+            }
+        }
+        turn += 1;
+    }
+    batch.cases.truncate(count);
+    batch.cases
+}

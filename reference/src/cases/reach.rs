@@ -1,0 +1,192 @@
+//! Reach: how often each refusal and each instruction occurs in case files. Every case is
+//! also solved again, so that a file which the reference no longer agrees with is found.
+
+use super::bytes::Reader;
+use super::checks::CheckCase;
+use super::exchanges::ExchangeCase;
+use super::filefield::FileField;
+use super::groups::Group;
+use super::leaves::Leaf;
+use super::maps::MapCase;
+use super::moves::MoveCase;
+use super::scans::{ScanCase, ENDED, WATCHDOG};
+use crate::check::check;
+use crate::memory::IMAGE;
+use crate::scan::scan_watched;
+
+#[derive(Clone)]
+pub struct Reach {
+    pub cases: u64,
+    pub agree: u64,
+    /// By refusal number; 0 counts the accepted.
+    pub refusals: [u64; 15],
+    /// Records of accepted files, by instruction number.
+    pub listed: [u64; 256],
+    /// Records executed by the scans, and those among them with the flow on before them.
+    pub executed: [u64; 256],
+    pub with_flow: [u64; 256],
+    pub errors: [u64; 3],
+    pub ended: u64,
+    pub watchdog: u64,
+    pub groups: u64,
+}
+
+impl Default for Reach {
+    fn default() -> Reach {
+        Reach {
+            cases: 0,
+            agree: 0,
+            refusals: [0; 15],
+            listed: [0; 256],
+            executed: [0; 256],
+            with_flow: [0; 256],
+            errors: [0; 3],
+            ended: 0,
+            watchdog: 0,
+            groups: 0,
+        }
+    }
+}
+
+impl Reach {
+    fn count(&mut self, refusal: u32, agrees: bool) {
+        self.cases += 1;
+        self.agree += u64::from(agrees);
+        if let Some(counter) = self.refusals.get_mut(refusal as usize) {
+            *counter += 1;
+        }
+    }
+
+    /// Instructions of an accepted file.
+    fn list(&mut self, file: &[u8]) {
+        if let Ok(program) = check(file) {
+            for record in &program.records {
+                self.listed[usize::from(record.number)] += 1;
+            }
+        }
+    }
+
+    fn watch(&mut self, case: &ScanCase, before: &[u8]) {
+        let Ok(program) = check(&case.file) else {
+            return;
+        };
+        let mut memory = case.memory.lend(before);
+        let (executed, with_flow) = (&mut self.executed, &mut self.with_flow);
+        let mut watch = |at: usize, on: bool| {
+            let number = usize::from(program.records[at].number);
+            executed[number] += 1;
+            with_flow[number] += u64::from(on);
+        };
+        // A refusal was counted already.
+        let _ = scan_watched(&case.file, &mut memory, case.elapsed, case.budget, &mut watch);
+    }
+
+    fn leaves(&mut self, from: &mut Reader, count: u32) -> Option<()> {
+        for _ in 0..count {
+            let leaf = Leaf::read(from)?;
+            self.count(0, leaf.again() == Some(leaf));
+            if let Some(number) = leaf.instruction() {
+                self.listed[usize::from(number)] += 1;
+            }
+            self.errors[(leaf.error as usize).min(2)] += 1;
+        }
+        for _ in 0..from.u32()? {
+            let group = Group::read(from)?;
+            self.count(0, group.again() == group);
+            self.groups += 1;
+        }
+        Some(())
+    }
+
+    fn checks(&mut self, from: &mut Reader, count: u32) -> Option<()> {
+        for _ in 0..count {
+            let case = CheckCase::read(from)?;
+            self.count(case.refusal, CheckCase::solve(case.file.clone()) == case);
+            self.list(&case.file);
+        }
+        Some(())
+    }
+
+    fn scans(&mut self, from: &mut Reader, count: u32) -> Option<()> {
+        let mut files = FileField::default();
+        let mut kept = vec![0; IMAGE];
+        for _ in 0..count {
+            let case = ScanCase::read(&mut files, from)?;
+            let before = case.memory.image(&kept);
+            let (file, memory) = (case.file.clone(), case.memory.clone());
+            let again = ScanCase::solve(file, memory, case.elapsed, case.budget, &mut kept);
+            self.count(case.refusal, again == case);
+            self.list(&case.file);
+            self.watch(&case, &before);
+            self.ended += u64::from(case.kind == ENDED);
+            self.watchdog += u64::from(case.kind == WATCHDOG);
+            self.errors[(case.answer.error as usize).min(2)] += 1;
+        }
+        Some(())
+    }
+
+    fn moves(&mut self, from: &mut Reader, count: u32) -> Option<()> {
+        let mut files = FileField::default();
+        for _ in 0..count {
+            let case = MoveCase::read(&mut files, from)?;
+            let again = MoveCase::solve(case.file.clone(), case.block, case.pool);
+            self.count(case.refusal, again == case);
+            self.list(&case.file);
+        }
+        Some(())
+    }
+
+    fn exchanges(&mut self, from: &mut Reader, count: u32) -> Option<()> {
+        for _ in 0..count {
+            let case = ExchangeCase::read(from)?;
+            let again =
+                ExchangeCase::solve(case.rule, case.seed, case.words, case.block, case.place);
+            self.count(case.refusal, again == case);
+        }
+        Some(())
+    }
+
+    fn maps(&mut self, from: &mut Reader, count: u32) -> Option<()> {
+        let mut files = FileField::default();
+        for _ in 0..count {
+            let case = MapCase::read(&mut files, from)?;
+            self.count(case.refusal, MapCase::solve(case.file.clone()) == case);
+            self.list(&case.file);
+        }
+        Some(())
+    }
+
+    /// Adds a whole case file; none if it is not one, or not exactly one.
+    pub fn add(&mut self, bytes: &[u8]) -> Option<()> {
+        let mut from = Reader::new(bytes);
+        let (kind, count) = from.header()?;
+        match kind {
+            super::LEAVES => self.leaves(&mut from, count)?,
+            super::CHECKS => self.checks(&mut from, count)?,
+            super::SCANS => self.scans(&mut from, count)?,
+            super::MOVES => self.moves(&mut from, count)?,
+            super::EXCHANGES => self.exchanges(&mut from, count)?,
+            super::MAPS => self.maps(&mut from, count)?,
+            _ => return None,
+        }
+        from.at_end().then_some(())
+    }
+}
+
+#[cfg(test)]
+mod tests {
+    use super::Reach;
+    use crate::cases::{case_file, KINDS};
+
+    #[test]
+    fn written_files_read_back_and_agree() {
+        for kind in KINDS {
+            let bytes = case_file(kind, 3, 150).unwrap();
+            assert_eq!(bytes, case_file(kind, 3, 150).unwrap());
+            let mut reach = Reach::default();
+            assert!(reach.add(&bytes).is_some(), "{kind}");
+            assert_eq!(reach.cases, reach.agree, "{kind}");
+            assert!(Reach::default().add(&bytes[..bytes.len() - 1]).is_none(), "{kind}");
+        }
+    }
+}

@@ -1,0 +1,18 @@
+//! `storm`: many random inputs and what must hold of every answer.
+
+use super::Said;
+use crate::storm::Tally;
+
+fn describe(t: &Tally) -> String {
+    let files = format!("files {} refused {}", t.files, t.refused);
+    let scans = format!("scans {} watchdogs {}", t.scans, t.watchdogs);
+    let moves = format!("moves {} accepted {} twin scans {}", t.moves, t.moved, t.twin_scans);
+    format!("{files}, {scans}, {moves}\nall held\n")
+}
+
+pub fn storm(seed: u32, count: u32) -> Said {
+    match crate::storm::storm(u64::from(seed), count) {
+        Ok(tally) => Ok((describe(&tally), 0)),
+        Err(what) => Ok((format!("DID NOT HOLD: {what}\n"), 1)),
+    }
+}

@@ -1,0 +1,26 @@
+//! The independent reference of Ninhalto: check, scan, use map, move and exchange for
+//! programs of the EC20 series, written from document 01 alone.
+
+pub mod arith;
+pub mod cases;
+pub mod check;
+pub mod cli;
+pub mod compose;
+pub mod devices;
+pub mod exchange;
+pub mod file;
+pub mod flow;
+pub mod generate;
+pub mod instruction;
+pub mod labels;
+pub mod memory;
+pub mod mover;
+pub mod operand;
+pub mod refusal;
+pub mod rung;
+pub mod scan;
+pub mod selftest;
+pub mod storm;
+pub mod structure;
+pub mod usemap;
+pub mod words;
