@@ -23,21 +23,24 @@ loop-holds : tie.Need-loop-holds Inv-loop μ-loop
 loop-holds c = (search needs, search needs, rw sub-zero)
 
 returns : tie.Need-returns Inv-loop μ-loop
-returns c = let l = c .before .before .before .before .loop in
+returns c =
+    let l = c .before .before .before .before .loop in
     broke _ _ (l .k) _ (search needs) (c .before .before .instr-at .ensures) (c .before .keeps .ensures) (turned _ true (c .if1 .taken)) ∙ sym (l .inv .2)
 
 after-record-requires : tie.Need-after-record-requires Inv-loop μ-loop
 after-record-requires c κs = c .before .before .before .before .loop .inv .1
 
 loop-again : tie.Need-loop-again Inv-loop μ-loop
-loop-again c = let l = c .before .before .before .before .before .loop in (
-  search needs,
-  within-after _ _ (l .inv .1) (c .before .before .keeps .ensures) (turned _ false (c .before .if1 .left)) (c .after-record .ensures),
-  l .inv .2 ∙ turn _ _ (l .k) _ (search needs) (c .before .before .before .instr-at .ensures) (c .before .before .keeps .ensures) (turned _ false (c .before .if1 .left)) (c .after-record .ensures),
-)
+loop-again c =
+    let l = c .before .before .before .before .before .loop in (
+      search needs,
+      within-after _ _ (l .inv .1) (c .before .before .keeps .ensures) (turned _ false (c .before .if1 .left)) (c .after-record .ensures),
+      l .inv .2 ∙ turn _ _ (l .k) _ (search needs) (c .before .before .before .instr-at .ensures) (c .before .before .keeps .ensures) (turned _ false (c .before .if1 .left)) (c .after-record .ensures),
+    )
 
 returns-2 : tie.Need-returns-2 Inv-loop μ-loop
-returns-2 c = let l = c .before .loop in
+returns-2 c =
+    let l = c .before .loop in
     done _ _ (l .k) _ (search needs) ∙ sym (l .inv .2)
 
 pub first-broken-spec : {M : Type 1} → statement M

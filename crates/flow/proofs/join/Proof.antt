@@ -1,0 +1,27 @@
+use borrow.Author.Tests.{eq-eqb, ne-eqb}
+use mathlib.Core.Path.{refl}
+use Rattle.ec20.specs.Flow.{joinOf}
+use borrow.Author.Needs.{needs}
+use Rattle.flow.proofs.join.Statement.{statement}
+use Rattle.flow.proofs.join.Tie as tie
+
+returns : tie.Need-returns
+unfolding joinOf
+returns c = rw (eq-eqb _ _ (c .before .before .before .if1 .taken)) (cc)
+
+returns-2 : tie.Need-returns-2
+unfolding joinOf
+returns-2 c = rw (ne-eqb _ _ (c .before .before .before .if1 .left)) (cc)
+
+pub join-spec : {M : Type 1} → statement M
+join-spec =
+    tie.close
+    (tie.spec
+    (λ c κs. search needs)
+    (λ c κs. search needs)
+    (λ c κs. search needs)
+    (λ c κs. search needs)
+    returns
+    (λ c κs. search needs)
+    (λ c κs. search needs)
+    returns-2)

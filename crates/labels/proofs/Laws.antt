@@ -1,0 +1,90 @@
+-- One turn of the loops: of the search in a loop body, and of the search for the first record that passes a test. Assumes nothing.
+use lib.Dec.{eqb}
+use mathlib.Core.Bool.{Bool, true, false}
+use mathlib.Core.Path.{_≡_, sym, ap, _∙_}
+use native.Mathlib.Omega.{arith}
+use Prim.Native.Nat.{ℕ, suc, _+_, _-_, _<_, _≤_}
+use Rattle.ec20.specs.Basics.{pick, firstAt}
+use Rattle.ec20.specs.Control.{Controls, shiftOf, turnOf, byTurn, findOf, findFrom}
+use Rattle.ec20.specs.declared.Control.the-variants.{Plain, Opens, Closes, Jumps, Marks, Ends}
+use Rattle.ec20.specs.declared.Control.{Control}
+use Rattle.ec20.specs.declared.Found.the-variants.{At, Nowhere}
+use Rattle.ec20.specs.declared.Turn.the-variants.{Hit, Stop, On}
+use Rattle.ec20.specs.declared.Turn.{Turn}
+use Rattle.ec20.specs.Labels.{labelFault}
+
+-- the search from record i on, which is d deep, by what the record does to it
+module _ (want : Control → Bool) (code : Controls) (i d n : ℕ) where
+  step : i < n → findFrom code n want i d ≡ byTurn (turnOf (want (code i)) (code i) d) i (λ j. findFrom code n want (i + 1) j)
+  unfolding findOf
+  step h = let e : n - i ≡ suc (n - (i + 1)) = omega arith in ap (λ (k : ℕ). findOf want code k i d) e
+
+  -- record i is the one
+  pub hit : {r : Turn} {x : Control} → i < n → x ≡ code i → r ≡ turnOf (want x) x d → r ≡ Hit → At i ≡ findFrom code n want i d
+  unfolding byTurn
+  hit h q e g = let o : turnOf (want (code i)) (code i) d ≡ Hit = sym (rw q at e) ∙ g in sym (step h ∙ rw o)
+
+  -- record i ends the body
+  pub stop : {r : Turn} {x : Control} → i < n → x ≡ code i → r ≡ turnOf (want x) x d → r ≡ Stop → Nowhere ≡ findFrom code n want i d
+  unfolding byTurn
+  stop h q e g = let o : turnOf (want (code i)) (code i) d ≡ Stop = sym (rw q at e) ∙ g in sym (step h ∙ rw o)
+
+  -- the search goes on, j deep
+  pub on : {r : Turn} {x : Control} {j : ℕ} → i < n → x ≡ code i → r ≡ turnOf (want x) x d → r ≡ On j → findFrom code n want i d ≡ findFrom code n want (i + 1) j
+  unfolding byTurn
+  on {j = j} h q e g = let o : turnOf (want (code i)) (code i) d ≡ On j = sym (rw q at e) ∙ g in step h ∙ rw o
+
+  -- no record is left
+  pub over : n ≤ i → Nowhere ≡ findFrom code n want i d
+  unfolding findOf
+  over h = let e : n - i ≡ 0 = omega arith in rw e
+
+-- the search goes at most one deeper
+unfoldable Near : ℕ → Turn → Type 0
+Near d Hit = Unit {0}
+Near d Stop = Unit {0}
+Near d (On j) = j ≤ d + 1
+
+picked : {A : Type 0} (P : A → Type 0) (t : Bool) (x y : A) → P x → P y → P (pick t x y)
+picked P true x y f g = f
+picked P false x y f g = g
+
+near-shift : (i : Control) (d : ℕ) → Near d (shiftOf i d)
+unfolding Near shiftOf
+near-shift Plain d = omega arith
+near-shift (Opens n) d = omega arith
+near-shift Closes d = picked (Near d) (eqb d 0) Stop (On (d - 1)) tt (omega arith)
+near-shift (Jumps l) d = omega arith
+near-shift (Marks l) d = omega arith
+near-shift Ends d = omega arith
+
+near-turn : (b : Bool) (i : Control) (d : ℕ) → Near d (turnOf b i d)
+unfolding turnOf Near
+near-turn b i d = picked (Near d) (eqb d 0) _ _ (picked (Near d) b _ _ tt (near-shift i d)) (near-shift i d)
+
+pub near : (b : Bool) (i : Control) (d : ℕ) {r : Turn} {j : ℕ} → r ≡ turnOf b i d → r ≡ On j → j ≤ d + 1
+unfolding Near
+near b i d {j = j} e g = let o : turnOf b i d ≡ On j = sym e ∙ g in rw o at (near-turn b i d)
+
+-- the first record from i on that passes a test
+module _ (test : ℕ → Bool) (i n : ℕ) where
+  first-step : i < n → firstAt test (n - i) i ≡ pick (test i) (At i) (firstAt test (n - (i + 1)) (i + 1))
+  unfolding firstAt
+  first-step h = let e : n - i ≡ suc (n - (i + 1)) = omega arith in ap (λ (k : ℕ). firstAt test k i) e
+
+  -- record i passes
+  pub passes : {b : Bool} → i < n → b ≡ test i → b ≡ true → At i ≡ firstAt test (n - i) i
+  passes h e g = let o : test i ≡ true = sym e ∙ g in sym (first-step h ∙ rw o)
+
+  -- it does not: on to the next
+  pub fails : {b : Bool} → i < n → b ≡ test i → b ≡ false → firstAt test (n - i) i ≡ firstAt test (n - (i + 1)) (i + 1)
+  fails h e g = let o : test i ≡ false = sym e ∙ g in first-step h ∙ rw o
+
+  -- no record is left
+  pub none : n ≤ i → Nowhere ≡ firstAt test (n - i) i
+  unfolding firstAt
+  none h = let e : n - i ≡ 0 = omega arith in rw e
+
+-- a record's fault, by what it was read as
+pub as-told : (code : Controls) (n k : ℕ) {x i : Control} {b : Bool} → x ≡ code k → x ≡ i → b ≡ labelFault code n k i → b ≡ labelFault code n k (code k)
+as-told code n k q g e = e ∙ ap (labelFault code n k) (sym g ∙ q)

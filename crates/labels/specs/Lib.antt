@@ -1,0 +1,2 @@
+-- What a search looks for.
+pub mod Want

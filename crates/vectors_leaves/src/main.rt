@@ -1,0 +1,107 @@
+// Runs the proved leaves on the cases of leaves.bin and compares what they give with the answers that stand there, which another
+// implementation gave. The format is in reference/FORMAT.md, "Leaves".
+mod group;
+mod leaf;
+mod number;
+mod told;
+
+use told::Case;
+
+// How many cases the file says that there are.
+enum Count {
+    Of(usize),
+    Wrong,
+}
+
+fn leaves(fd: i32) -> Count {
+    let mut h = [0u8; 12];
+    let got = io::read_full(fd, &mut h);
+    if got < 12 {
+        return Count::Wrong;
+    }
+    let named = (h[0] == b'N') & (h[1] == b'H') & (h[2] == b'V') & (h[3] == b'1');
+    if named & (records::u32_at(&h, 4) == 1) {
+        return Count::Of(records::u32_at(&h, 8));
+    }
+    Count::Wrong
+}
+
+// The number of groups, which stands between the two sections.
+fn groups(fd: i32) -> Count {
+    let mut h = [0u8; 4];
+    let got = io::read_full(fd, &mut h);
+    if got < 4 {
+        return Count::Wrong;
+    }
+    Count::Of(records::u32_at(&h, 0))
+}
+
+// The next case: of the leaves, or else of the groups.
+fn next(fd: i32, leaves: bool) -> Case {
+    if leaves {
+        leaf::run(fd)
+    } else {
+        group::run(fd)
+    }
+}
+
+// The n cases of a section. The answer is false where the file ends before the last.
+fn section(fd: i32, leaves: bool, n: usize) -> bool {
+    let mut i: usize = 0;
+    let mut differ: usize = 0;
+    while i < n {
+        match next(fd, leaves) {
+            Case::Agrees => {}
+            Case::Differs => {
+                told::differs(leaves, i, differ);
+                differ += 1;
+            }
+            Case::Cut => {
+                told::cut(leaves, i);
+                return false;
+            }
+        }
+        i += 1;
+    }
+    told::total(leaves, i - differ, differ);
+    true
+}
+
+// Whether nothing follows in the file.
+fn at_end(fd: i32) -> bool {
+    let mut one = [0u8; 1];
+    io::read_full(fd, &mut one) == 0
+}
+
+fn second_section(fd: i32) {
+    match groups(fd) {
+        Count::Of(n) => {
+            if section(fd, false, n) {
+                told::ended(at_end(fd));
+            }
+        }
+        Count::Wrong => told::cut(false, 0),
+    }
+}
+
+fn run(fd: i32) {
+    match leaves(fd) {
+        Count::Of(n) => {
+            if section(fd, true, n) {
+                second_section(fd);
+            }
+        }
+        Count::Wrong => told::wrong_head(),
+    }
+}
+
+fn main() {
+    let name = b"leaves.bin";
+    let fd = os::open_read(name);
+    if fd < 0 {
+        os::fail(name);
+        return;
+    }
+    run(fd);
+    libc::close(fd);
+}
