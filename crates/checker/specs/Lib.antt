@@ -1,0 +1,2 @@
+-- The check in stages.
+pub mod Stages
