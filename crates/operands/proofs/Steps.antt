@@ -1,0 +1,167 @@
+-- What the arms of the code come to, as the definitions say it. Assumes nothing.
+use mathlib.Core.Path.{_≡_, refl, ap, ap₂, _∙_}
+use mathlib.Core.Bool.{Bool, true, false, _||_}
+use mathlib.Core.List.{List}
+use Prim.Native.Nat.{ℕ, _^_, _<_, _≤_}
+use native.Mathlib.Omega.{arith}
+use borrow.Author.Tests.{eq-eqb, ne-eqb}
+use lib.Dec.{eqb}
+use lib.IntN.{ℤ, pos, negsuc}
+use lib.ListN.{getD, set}
+use lib.Signed.{mag, ltZ}
+use mir.Syntax.{w64}
+use mir.Val.{toZ, ofZ, boolByte}
+use Rattle.ec20.specs.declared.Operand.{Operand}
+use Rattle.ec20.specs.declared.Outcome.{Outcome}
+use Rattle.ec20.specs.Basics.{pick, one-if}
+use Rattle.ec20.specs.Numbers.{half}
+use Rattle.ec20.specs.Registers.{wordAt, numberAt, withNumber}
+use Rattle.ec20.specs.Bits.{withBit, groupAt, withGroup}
+use Rattle.ec20.specs.Memory.{Memory, memory, groupBits, storeBit, constantAt, loadOf, storeOf, following, withSM}
+use Rattle.ec20.specs.Words.{withFlags, storeAll}
+use Rattle.ec20.specs.Flow.{coilOf}
+use Rattle.ec20.specs.Timers.{unitsOf, oldOf, countedOf, contactIs, limitAt, timerOf}
+use Rattle.ints.proofs.Parts.{said, ltZ-true}
+
+-- a number that a call answers and that is handed on: what it is, and its range
+pub told : (H : ℕ) {z v : ℤ} → mag z < 2 ^ 63 → z ≡ v → mag v < H → (toZ w64 (ofZ w64 z) ≡ v) × (mag (toZ w64 (ofZ w64 z)) < H)
+told H {z} {v} ok e l = let s : toZ w64 (ofZ w64 z) ≡ v = said w64 ok e in (s, rw s l)
+
+half-by : (b : Bool) → 2 ^ 15 ≤ pick b (2 ^ 15) (2 ^ 31)
+half-by true = omega arith
+half-by false = omega arith
+
+-- a width holds every word
+pub half-least : (w : ℕ) → 2 ^ 15 ≤ half w
+half-least w = half-by (eqb w 16)
+
+-- a source, by its kind: r is what is read
+module _ (w : ℕ) (o : Operand) (x y m : List ℕ) (d tv : List ℤ) {r : ℤ} where
+  pub read-constant : o .kind ≡ 1 → r ≡ constantAt w o → (sm t : List ℕ) → r ≡ loadOf w o (memory x y m sm t d tv)
+  unfolding loadOf
+  read-constant k e sm t = rw k e
+
+  pub read-t : o .kind ≡ 6 → r ≡ wordAt tv (o .value) → (sm t : List ℕ) → r ≡ loadOf w o (memory x y m sm t d tv)
+  unfolding loadOf
+  read-t k e sm t = rw k e
+
+  pub read-d : o .kind ≡ 7 → r ≡ numberAt w d (o .value) → (sm t : List ℕ) → r ≡ loadOf w o (memory x y m sm t d tv)
+  unfolding loadOf
+  read-d k e sm t = rw k e
+
+  pub read-group : (bs : List ℕ) → (o .kind ≡ 1 → ⊥) → (o .kind ≡ 6 → ⊥) → (o .kind ≡ 7 → ⊥)
+      → ((sm t : List ℕ) (d tv : List ℤ) → bs ≡ groupBits (o .kind) (memory x y m sm t d tv))
+      → r ≡ groupAt w bs (o .value) (o .group) → (sm t : List ℕ) → r ≡ loadOf w o (memory x y m sm t d tv)
+  unfolding loadOf
+  read-group bs k1 k6 k7 b e sm t =
+      rw (ne-eqb _ _ k1, ne-eqb _ _ k6, ne-eqb _ _ k7)
+      (e ∙ ap (λ (l : List ℕ). groupAt w l (o .value) (o .group)) (b sm t d tv))
+
+-- a target, by its kind
+module _ (w : ℕ) (o : Operand) (z : ℤ) (x y m sm t : List ℕ) (d tv : List ℤ) where
+  pub into-d : {d′ : List ℤ} → o .kind ≡ 7 → d′ ≡ withNumber w d (o .value) z → memory x y m sm t d′ tv ≡ storeOf w o z (memory x y m sm t d tv)
+  unfolding storeOf
+  into-d k e = rw (k, e)
+
+  pub into-y : {y′ : List ℕ} → o .kind ≡ 3 → y′ ≡ withGroup w y (o .value) (o .group) z → memory x y′ m sm t d tv ≡ storeOf w o z (memory x y m sm t d tv)
+  unfolding storeOf
+  into-y k e = rw (k, e)
+
+  pub into-m : {m′ : List ℕ} → o .kind ≡ 4 → m′ ≡ withGroup w m (o .value) (o .group) z → memory x y m′ sm t d tv ≡ storeOf w o z (memory x y m sm t d tv)
+  unfolding storeOf
+  into-m k e = rw (k, e)
+
+  pub into-none : (o .kind ≡ 7 → ⊥) → (o .kind ≡ 3 → ⊥) → (o .kind ≡ 4 → ⊥) → memory x y m sm t d tv ≡ storeOf w o z (memory x y m sm t d tv)
+  unfolding storeOf
+  into-none k7 k3 k4 = rw (ne-eqb _ _ k7, ne-eqb _ _ k3, ne-eqb _ _ k4)
+
+-- a coil's bit, by its kind
+module _ (o : Operand) (b : ℕ) (x y m sm t : List ℕ) (d tv : List ℤ) where
+  pub bit-y : {y′ : List ℕ} → o .kind ≡ 3 → y′ ≡ withBit y (o .value) b → memory x y′ m sm t d tv ≡ storeBit o b (memory x y m sm t d tv)
+  unfolding storeBit
+  bit-y k e = rw (k, e)
+
+  pub bit-m : {m′ : List ℕ} → o .kind ≡ 4 → m′ ≡ withBit m (o .value) b → memory x y m′ sm t d tv ≡ storeBit o b (memory x y m sm t d tv)
+  unfolding storeBit
+  bit-m k e = rw (k, e)
+
+  pub bit-none : (o .kind ≡ 3 → ⊥) → (o .kind ≡ 4 → ⊥) → memory x y m sm t d tv ≡ storeBit o b (memory x y m sm t d tv)
+  unfolding storeBit
+  bit-none k3 k4 = rw (ne-eqb _ _ k3, ne-eqb _ _ k4)
+
+-- the flags put, after the values
+with-sm-by : (b : Bool) (r : Outcome) (c : Memory) → withSM c (pick b (withFlags r (c .sm)) (c .sm)) ≡ pick b (withSM c (withFlags r (c .sm))) c
+with-sm-by true r c = refl
+with-sm-by false r c = refl
+
+-- what the three calls of store_all come to, for any tables that they do not hold
+module _ (w : ℕ) (o : Operand) (r : Outcome) (y m sm y1 m1 y2 m2 sm2 : List ℕ) (d d1 d2 : List ℤ) (z : ℤ)
+    (is : z ≡ r .value)
+    (first : (x sm t : List ℕ) (tv : List ℤ) → memory x y1 m1 sm t d1 tv ≡ storeOf w o z (memory x y m sm t d tv))
+    (then : (x sm t : List ℕ) (tv : List ℤ) → memory x y2 m2 sm t d2 tv ≡ pick (eqb (r .two) 1) (storeOf w (following w o) (r .second) (memory x y1 m1 sm t d1 tv)) (memory x y1 m1 sm t d1 tv))
+    (last : sm2 ≡ pick (eqb (r .flags) 1) (withFlags r sm) sm) where
+  pub all-stored : (x t : List ℕ) (tv : List ℤ) → memory x y2 m2 sm2 t d2 tv ≡ storeAll w o r (memory x y m sm t d tv)
+  unfolding storeAll
+  all-stored x t tv =
+      let c2 = then x sm t tv ∙ ap (λ (c : Memory). pick (eqb (r .two) 1) (storeOf w (following w o) (r .second) c) c) (first x sm t tv ∙ ap (λ (v : ℤ). storeOf w o v (memory x y m sm t d tv)) is) in
+      ap (λ (l : List ℕ). memory x y2 m2 l t d2 tv) last
+      ∙ with-sm-by (eqb (r .flags) 1) r (memory x y2 m2 sm t d2 tv)
+      ∙ ap (λ (c : Memory). pick (eqb (r .flags) 1) (withSM c (withFlags r (c .sm))) c) c2
+
+-- the second value, where there is one
+module _ (w : ℕ) (o : Operand) (r : Outcome) (y m y1 m1 : List ℕ) (d d1 : List ℤ) where
+  pub second-stored : {n : Operand} {z : ℤ} → r .two ≡ 1 → n ≡ following w o → z ≡ r .second
+      → ((x sm t : List ℕ) (tv : List ℤ) → memory x y1 m1 sm t d1 tv ≡ storeOf w n z (memory x y m sm t d tv))
+      → (x sm t : List ℕ) (tv : List ℤ) → memory x y1 m1 sm t d1 tv ≡ pick (eqb (r .two) 1) (storeOf w (following w o) (r .second) (memory x y m sm t d tv)) (memory x y m sm t d tv)
+  second-stored two en ez f x sm t tv =
+      rw (eq-eqb _ _ two)
+      (f x sm t tv ∙ ap₂ (λ (n : Operand) (z : ℤ). storeOf w n z (memory x y m sm t d tv)) en ez)
+
+-- the three flags
+pub flags-put : (r : Outcome) (sm a b : List ℕ) {e : List ℕ} → r .flags ≡ 1 → a ≡ withBit sm 180 (r .zero) → b ≡ withBit a 181 (r .above) → e ≡ withBit b 182 (r .below)
+    → e ≡ pick (eqb (r .flags) 1) (withFlags r sm) sm
+unfolding withFlags
+flags-put r sm a b f ea eb ee =
+    rw (eq-eqb _ _ f)
+    (ee ∙ ap (λ (l : List ℕ). withBit l 182 (r .below)) (eb ∙ ap (λ (l : List ℕ). withBit l 181 (r .above)) ea))
+
+-- a test as a number
+pub bit-of : (b : Bool) → (boolByte b ≡ one-if b) × (boolByte b < 2)
+bit-of true = (refl, omega arith)
+bit-of false = (refl, omega arith)
+
+-- a coil, by whether it is OUT, whether there is flow, and whether it is SET
+coil-yes : (out on set : Bool) (o : Operand) (c : Memory) → (out || on) ≡ true
+    → storeBit o (pick out (one-if on) (one-if set)) c ≡ pick out (storeBit o (one-if on) c) (pick on (storeBit o (one-if set) c) c)
+coil-yes true on set o c h = refl
+coil-yes false true set o c h = refl
+coil-yes false false set o c h = let z : _≡_ {A = ℕ} 0 1 = cc in absurd (omega arith)
+
+coil-no : (out on set : Bool) (o : Operand) (c : Memory) → (out || on) ≡ false
+    → c ≡ pick out (storeBit o (one-if on) c) (pick on (storeBit o (one-if set) c) c)
+coil-no true on set o c h = let z : _≡_ {A = ℕ} 0 1 = cc in absurd (omega arith)
+coil-no false true set o c h = let z : _≡_ {A = ℕ} 0 1 = cc in absurd (omega arith)
+coil-no false false set o c h = refl
+
+module _ (n : ℕ) (o : Operand) (on : Bool) where
+  pub coil-acts : {b : ℕ} {e : Memory} (c : Memory) → (eqb n 12 || on) ≡ true → b ≡ pick (eqb n 12) (one-if on) (one-if (eqb n 13)) → e ≡ storeBit o b c → e ≡ coilOf n o on c
+  unfolding coilOf
+  coil-acts c h eb e = e ∙ ap (λ (j : ℕ). storeBit o j c) eb ∙ coil-yes (eqb n 12) on (eqb n 13) o c h
+
+  pub coil-rests : (c : Memory) → (eqb n 12 || on) ≡ false → c ≡ coilOf n o on c
+  unfolding coilOf
+  coil-rests c h = coil-no (eqb n 12) on (eqb n 13) o c h
+
+-- "old value, or 0 if negative"
+pub old-negative : (z : ℤ) → ltZ z (pos 0) ≡ true → 0 ≡ oldOf z
+old-negative (pos n) h = absurd (omega (arith, ltZ-true (pos n) (pos 0) h))
+old-negative (negsuc n) h = refl
+
+-- a timer
+module _ (elapsed i constant : ℕ) (on : Bool) (t : List ℕ) (tv : List ℤ) where
+  pub timed : (n : ℕ) {t1 : List ℕ} {tv1 : List ℤ} → n ≡ countedOf on (limitAt constant) (unitsOf elapsed i) (getD tv i (pos 0)) → t1 ≡ withBit t i (contactIs on (limitAt constant) n) → tv1 ≡ set tv i (pos n)
+      → (x y m sm : List ℕ) (d : List ℤ) → memory x y m sm t1 d tv1 ≡ timerOf elapsed i constant on (memory x y m sm t d tv)
+  unfolding timerOf
+  timed n en et ev x y m sm d =
+      ap₂ (λ (l : List ℕ) (k : List ℤ). memory x y m sm l d k) et ev
+      ∙ ap (λ (j : ℕ). memory x y m sm (withBit t i (contactIs on (limitAt constant) j)) d (set tv i (pos j))) en

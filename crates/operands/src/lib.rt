@@ -1,0 +1,251 @@
+// Operands over the lent memory: what each reads and writes of it. A program touches memory only here: bits of X, Y, M, SM and T contacts,
+// D words and T values. Each contract is one equation over the whole memory, whatever the tables are that a function does not hold.
+use ec20::Operand;
+use ec20::Outcome;
+ghost use mathlib.Core.Path.{_≡_};
+ghost use mathlib.Core.List.{List};
+ghost use Prim.Native.Nat.{ℕ, _/_, _<_, _≤_, _^_};
+ghost use lib.Dec.{eqb};
+ghost use lib.IntN.{ℤ};
+ghost use lib.Signed.{mag};
+ghost use Rattle.ec20.specs.Basics.{pick, one-if};
+ghost use Rattle.ec20.specs.Numbers.{bitsIn, half};
+ghost use Rattle.ec20.specs.Memory.{memory, bitsOf, groupBits, loadBit, storeBit, constantAt, loadOf, storeOf, following};
+ghost use Rattle.ec20.specs.Words.{withFlags, storeAll};
+ghost use Rattle.ec20.specs.Flow.{coilOf};
+ghost use Rattle.ec20.specs.Timers.{unitsOf, oldOf, countedOf, contactIs, limitAt, timerOf};
+ghost use Rattle.arith.specs.Bounded.{Bounded};
+
+// The bits of a kind: X, Y, M, SM; T contacts for all others.
+fn bits_of<'a>(
+    k: usize,
+    x: &'a [u8],
+    y: &'a [u8],
+    m: &'a [u8],
+    sm: &'a [u8],
+    t: &'a [u8],
+) -> &'a [u8]
+    ensures { λ r. ⌜ ((d tv : List ℤ) → now r ≡ bitsOf k (memory (now (x .entry)) (now (y .entry)) (now (m .entry)) (now (sm .entry)) (now (t .entry)) d tv)) ⌝ }
+{
+    match k {
+        2 => x,
+        3 => y,
+        4 => m,
+        5 => sm,
+        _ => t,
+    }
+}
+
+// "bit: X, Y, M, SM, T": whether the bit that the operand names is on.
+pub fn load_bit<'a>(
+    o: Operand,
+    x: &'a [u8],
+    y: &'a [u8],
+    m: &'a [u8],
+    sm: &'a [u8],
+    t: &'a [u8],
+) -> bool
+    ensures { λ r. ⌜ ((d tv : List ℤ) → r ≡ loadBit o (memory (now (x .entry)) (now (y .entry)) (now (m .entry)) (now (sm .entry)) (now (t .entry)) d tv)) ⌝ }
+{
+    let bits = bits_of(o.kind, x, y, m, sm, t);
+    bits::bit_at(bits, o.value) == 1
+}
+
+// "a group of 4n bits of X, Y or M": the bits of the kind.
+fn group_bits<'a>(k: usize, x: &'a [u8], y: &'a [u8], m: &'a [u8]) -> &'a [u8]
+    ensures { λ r. ⌜ ((sm t : List ℕ) (d tv : List ℤ) → now r ≡ groupBits k (memory (now (x .entry)) (now (y .entry)) (now (m .entry)) sm t d tv)) ⌝ }
+{
+    match k {
+        2 => x,
+        3 => y,
+        _ => m,
+    }
+}
+
+// "constant (two's complement)": the value as a number of w bits.
+fn constant(w: usize, o: Operand) -> i64
+    ensures { λ r. ⌜ (r ≡ constantAt w o) × (mag r < half w) ⌝ }
+{
+    let v = o.value as u64;
+    match w {
+        16 => ints::of_bits(v % 65536, 32768),
+        _ => ints::of_bits(v % 4294967296, 2147483648),
+    }
+}
+
+// A source of w bits: "a constant .., a group .., T (its value) or D", at 32 bits "a D pair".
+pub fn load<'a>(
+    w: usize,
+    o: Operand,
+    x: &'a [u8],
+    y: &'a [u8],
+    m: &'a [u8],
+    d: &[i16],
+    tv: &[i16],
+) -> i64
+    requires { ⌜ o .value < 2 ^ 32 ⌝ }
+    ensures { λ r. ⌜ ((sm t : List ℕ) → r ≡ loadOf w o (memory (now (x .entry)) (now (y .entry)) (now (m .entry)) sm t (now (d .entry)) (now (tv .entry)))) × (mag r < half w) ⌝ }
+{
+    let k = o.kind;
+    match k {
+        1 => constant(w, o),
+        6 => words::word_at(tv, o.value),
+        7 => words::number_at(d, o.value, w),
+        _ => bits::group_at(group_bits(k, x, y, m), o.value, o.group, w),
+    }
+}
+
+// A target of w bits: "groups of Y or M .., or D".
+fn store(w: usize, o: Operand, z: i64, y: &mut [u8], m: &mut [u8], d: &mut [i16])
+    requires { ⌜ (o .value < 2 ^ 33) × (mag z < half w) ⌝ }
+    ensures { λ _. ⌜ ((x sm t : List ℕ) (tv : List ℤ) → memory x (now (y .exit)) (now (m .exit)) sm t (now (d .exit)) tv ≡ storeOf w o z (memory x (now (y .entry)) (now (m .entry)) sm t (now (d .entry)) tv)) ⌝ }
+{
+    let k = o.kind;
+    match k {
+        7 => words::put_number(d, o.value, w, z),
+        3 => bits::put_group(y, o.value, o.group, w, z),
+        4 => bits::put_group(m, o.value, o.group, w, z),
+        _ => {}
+    }
+}
+
+// How many words a number of w bits takes in D: one at 16, two at 32.
+fn words_in(w: usize) -> usize
+    ensures { λ r. ⌜ (r ≡ bitsIn w / 16) × (r ≤ 2) ⌝ }
+{
+    if w == 16 { 1 } else { 2 }
+}
+
+// "DIV: quotient, then remainder, two words; DDIV: four words": the target that follows, for the remainder.
+fn next(w: usize, o: Operand) -> Operand
+    requires { ⌜ o .value < 2 ^ 32 ⌝ }
+    ensures { λ r. ⌜ r ≡ following w o ⌝ }
+{
+    Operand {
+        kind: o.kind,
+        group: o.group,
+        value: o.value + words_in(w),
+    }
+}
+
+// The second of two values, in the target that follows; nothing where there is one value only.
+fn second(w: usize, o: Operand, r: Outcome, y: &mut [u8], m: &mut [u8], d: &mut [i16])
+    requires { ⌜ (o .value < 2 ^ 32) × (mag (r .second) < half w) ⌝ }
+    ensures { λ _. ⌜ ((x sm t : List ℕ) (tv : List ℤ) → memory x (now (y .exit)) (now (m .exit)) sm t (now (d .exit)) tv ≡ pick (eqb (r .two) 1) (storeOf w (following w o) (r .second) (memory x (now (y .entry)) (now (m .entry)) sm t (now (d .entry)) tv)) (memory x (now (y .entry)) (now (m .entry)) sm t (now (d .entry)) tv)) ⌝ }
+{
+    if r.two == 1 {
+        store(w, next(w, o), r.second, y, m, d);
+    }
+}
+
+// "SM180 on exactly if the exact result is 0, SM181 if it is above the width's range, SM182 if below"; nothing where flags stay.
+fn flags(r: Outcome, sm: &mut [u8])
+    requires { ⌜ (r .zero < 2) × (r .above < 2) × (r .below < 2) ⌝ }
+    ensures { λ _. ⌜ now (sm .exit) ≡ pick (eqb (r .flags) 1) (withFlags r (now (sm .entry))) (now (sm .entry)) ⌝ }
+{
+    if r.flags == 1 {
+        bits::put_bit(sm, 180, r.zero);
+        bits::put_bit(sm, 181, r.above);
+        bits::put_bit(sm, 182, r.below);
+    }
+}
+
+// An outcome that is no error, stored in the target of w bits: the value, the second value in the target that follows, the flags.
+pub fn store_all(
+    w: usize,
+    o: Operand,
+    r: Outcome,
+    y: &mut [u8],
+    m: &mut [u8],
+    sm: &mut [u8],
+    d: &mut [i16],
+)
+    requires { ⌜ (o .value < 2 ^ 32) × Bounded (half w) r ⌝ }
+    ensures { λ _. ⌜ ((x t : List ℕ) (tv : List ℤ) → memory x (now (y .exit)) (now (m .exit)) (now (sm .exit)) t (now (d .exit)) tv ≡ storeAll w o r (memory x (now (y .entry)) (now (m .entry)) (now (sm .entry)) t (now (d .entry)) tv)) ⌝ }
+{
+    store(w, o, r.value, y, m, d);
+    second(w, o, r, y, m, d);
+    flags(r, sm);
+}
+
+// "bit: Y, M": the bit that the operand names made b.
+fn store_bit(o: Operand, b: usize, y: &mut [u8], m: &mut [u8])
+    requires { ⌜ b < 2 ⌝ }
+    ensures { λ _. ⌜ ((x sm t : List ℕ) (d tv : List ℤ) → memory x (now (y .exit)) (now (m .exit)) sm t d tv ≡ storeBit o b (memory x (now (y .entry)) (now (m .entry)) sm t d tv)) ⌝ }
+{
+    let k = o.kind;
+    match k {
+        3 => bits::put_bit(y, o.value, b),
+        4 => bits::put_bit(m, o.value, b),
+        _ => {}
+    }
+}
+
+// What OUT (12), SET (13) and RST write.
+fn written(n: usize, on: bool) -> usize
+    ensures { λ r. ⌜ (r ≡ pick (eqb n 12) (one-if on) (one-if (eqb n 13))) × (r < 2) ⌝ }
+{
+    if n == 12 {
+        on as usize
+    } else {
+        (n == 13) as usize
+    }
+}
+
+// "OUT writes the flow; SET and RST act only with flow."
+pub fn coil(n: usize, o: Operand, on: bool, y: &mut [u8], m: &mut [u8])
+    ensures { λ _. ⌜ ((x sm t : List ℕ) (d tv : List ℤ) → memory x (now (y .exit)) (now (m .exit)) sm t d tv ≡ coilOf n o on (memory x (now (y .entry)) (now (m .entry)) sm t d tv)) ⌝ }
+{
+    if (n == 12) | on {
+        store_bit(o, written(n, on), y, m);
+    }
+}
+
+// "Every timer counts units of 100 ms": how many units timer i counts in a scan of so many elapsed units.
+fn units(elapsed: usize, i: usize) -> usize
+    requires { ⌜ elapsed ≤ 32767 ⌝ }
+    ensures { λ r. ⌜ (r ≡ unitsOf elapsed i) × (r ≤ 32767) ⌝ }
+{
+    elapsed
+}
+
+// "old value, or 0 if negative".
+fn old(z: i64) -> usize
+    requires { ⌜ mag z < 2 ^ 15 ⌝ }
+    ensures { λ r. ⌜ (r ≡ oldOf z) × (r < 2 ^ 15) ⌝ }
+{
+    if ints::less(z, 0) {
+        return 0;
+    }
+    ints::plain(z) as usize
+}
+
+// "value becomes the smaller of the constant and (old value, or 0 if negative, plus elapsed units)"; "Without flow: value 0".
+fn counted(on: bool, limit: usize, units: usize, z: i64) -> usize
+    requires { ⌜ (units ≤ 32767) × (mag z < 2 ^ 15) ⌝ }
+    ensures { λ r. ⌜ (r ≡ countedOf on limit units z) × (r ≤ limit) ⌝ }
+{
+    if !on {
+        return 0;
+    }
+    let n = old(z) + units;
+    if n < limit { n } else { limit }
+}
+
+// "contact on exactly if it equals the constant. Without flow: .. contact off."
+fn contact(on: bool, limit: usize, n: usize) -> usize
+    ensures { λ r. ⌜ (r ≡ contactIs on limit n) × (r < 2) ⌝ }
+{
+    if on { (n == limit) as usize } else { 0 }
+}
+
+// "TON": timer i with this constant, with flow or not, in a scan of so many elapsed units.
+pub fn timer(elapsed: usize, i: usize, constant: usize, on: bool, t: &mut [u8], tv: &mut [i16])
+    requires { ⌜ elapsed ≤ 32767 ⌝ }
+    ensures { λ _. ⌜ ((x y m sm : List ℕ) (d : List ℤ) → memory x y m sm (now (t .exit)) d (now (tv .exit)) ≡ timerOf elapsed i constant on (memory x y m sm (now (t .entry)) d (now (tv .entry)))) ⌝ }
+{
+    let limit = constant % 32768;
+    let n = counted(on, limit, units(elapsed, i), words::word_at(tv, i));
+    bits::put_bit(t, i, contact(on, limit, n));
+    words::put_word(tv, i, ints::whole(n as u64));
+}
