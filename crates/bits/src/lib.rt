@@ -74,7 +74,7 @@ fn width(w: usize) -> usize
 }
 
 // One more than the largest number of width w.
-fn half_of(w: usize) -> u64
+pub fn half_of(w: usize) -> u64
     ensures { λ r. ⌜ r ≡ half w ⌝ }
 {
     if w == 16 { 32768 } else { 2147483648 }

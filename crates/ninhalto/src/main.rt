@@ -1,0 +1,22 @@
+// The command ninhalto. Its first argument names what to do, and the module of that name does it. What it answers goes to standard
+// output; what it could not try, and what a refusal means, to standard error.
+mod check;
+mod files;
+mod report;
+mod text;
+mod words;
+
+// words: how many the call has, the program's own name and the command among them.
+fn run(command: &[u8], words: usize) {
+    if text::same(command, b"check") & (words == 3) {
+        check::run();
+    } else {
+        report::usage();
+    }
+}
+
+fn main() {
+    let mut command = [0u8; 16];
+    let n = os::arg(1, &mut command);
+    run(&command[..n], os::arg_count());
+}

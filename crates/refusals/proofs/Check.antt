@@ -1,0 +1,157 @@
+-- THE TABLE OF REFUSALS: the check answers as the table says (told), and the table says one answer (only).
+use Prim.Native.Nat.{ℕ}
+use mathlib.Core.Bool.{Bool}
+use mathlib.Core.List.{List}
+use mathlib.Core.Path.{_≡_, refl, sym, ap, _∙_}
+use native.Mathlib.Omega.{arith}
+use native.Mathlib.Decide.{decLt}
+use Rattle.ec20.specs.declared.Judged.{Judged}
+use Rattle.ec20.specs.declared.Judged.the-variants.{Fine, Fault}
+use Rattle.ec20.specs.declared.Verdict.{Verdict}
+use Rattle.ec20.specs.declared.Verdict.the-variants.{Refused}
+use Rattle.ec20.specs.declared.Walked.{Walked}
+use Rattle.ec20.specs.declared.Walked.the-variants.{Done, Bad}
+use Rattle.ec20.specs.Basics.{pick, then}
+use Rattle.ec20.specs.Devices.{Device, ec20}
+use Rattle.ec20.specs.File.{countOf, recordsOf, framed}
+use Rattle.ec20.specs.Operands.{firstBad}
+use Rattle.ec20.specs.Code.{Program, programOf}
+use Rattle.ec20.specs.Control.{controlsOf}
+use Rattle.ec20.specs.Rung.{firstBroken}
+use Rattle.ec20.specs.Loops.{unsound, tooLong}
+use Rattle.ec20.specs.Labels.{firstUnlabelled}
+use Rattle.ec20.specs.Check.{walked, judgeProgram, judgeFile, verdictOf, checkFor, checkOf}
+use Rattle.ec20.proofs.Tests.{picked}
+use Rattle.refusals.specs.Frame.{no-records}
+use Rattle.refusals.specs.Rung.{Line5}
+use Rattle.refusals.specs.Structure.{Line6}
+use Rattle.refusals.specs.Labels.{Line7}
+use Rattle.refusals.specs.Steps.{wOf}
+use Rattle.refusals.specs.Table.{Told, told-1, told-2, told-3, told-4, told-5, told-6, told-7, told-8, accepted}
+use Rattle.refusals.specs.Table.{recordAt, Not1, Not2-4, Not5, Not6, Not7, First2-4}
+use Rattle.refusals.proofs.Search.{Judges, judged-fine, judged-fault}
+use Rattle.refusals.proofs.Frame.{unframed, frame-right, right-frame, wrong-frame}
+use Rattle.refusals.proofs.Records.{Number, is-2, is-3, is-4, is-0, none-broken, only-2, only-3, only-4, Judges2-4, judged-2-4, bad-fine, bad-fault}
+use Rattle.refusals.proofs.Rung.{judged-5}
+use Rattle.refusals.proofs.Structure.{judged-6}
+use Rattle.refusals.proofs.Labels.{judged-7}
+use Rattle.refusals.proofs.Steps.{long, not-long}
+
+-- a walk that refuses nothing
+sound-walk : (x : Walked) → unsound x ≡ Fine → (m w : ℕ) × (x ≡ Done m w)
+sound-walk (Done m w) e = (m, w, refl)
+sound-walk (Bad k) e = let z : _≡_ {A = ℕ} 0 1 = cc in absurd (omega arith)
+
+module _ (v : Device) (f : List ℕ) where
+  abbrev p : Program
+  p = programOf f
+
+  -- the judgements of a file whose frame is right
+  abbrev J2-4 : Judged
+  J2-4 = firstBad v (recordsOf f)
+
+  abbrev J5 : Judged
+  J5 = firstBroken p
+
+  abbrev J6 : Judged
+  J6 = unsound (walked p)
+
+  abbrev J7 : Judged
+  J7 = firstUnlabelled (controlsOf p) (p .count)
+
+  judged-records : Judges2-4 v (recordsOf f) J2-4
+  judged-records = judged-2-4 v (recordsOf f)
+
+  judged-rung : Judges 5 (countOf f) (Line5 p) J5
+  unfolding programOf
+  judged-rung = judged-5 p
+
+  judged-structure : Not1 f → Judges 6 (countOf f) (Line6 p) J6
+  unfolding programOf
+  judged-structure n = judged-6 p (elim (decLt 0 (countOf f)) [ yes h ↦ h | no h ↦ absurd (n (no-records (omega arith))) ])
+
+  judged-labels : J6 ≡ Fine → Judges 7 (countOf f) (Line7 p) J7
+  unfolding programOf
+  judged-labels e = let d = sound-walk (walked p) e in judged-7 p (d .0) (d .1) (d .2)
+
+  -- ---- the check answers as the table says
+
+  by-number : {n k : ℕ} → Not1 f → First2-4 v f k → Number v (recordAt f k) n → Told v f (Refused n k)
+  by-number a b (is-2 x) = told-2 a b x
+  by-number a b (is-3 x y) = told-3 a b x y
+  by-number a b (is-4 x y z) = told-4 a b x y z
+  by-number {k = k} a b (is-0 x y z) = absurd (none-broken v (recordAt f k) (is-0 x y z) refl (b .holds))
+
+  -- 8, or accepted
+  by-steps : Not1 f → Not2-4 v f → Not5 f → Not6 f → Not7 f → Told v f (verdictOf p (tooLong (wOf p)))
+  unfolding programOf
+  by-steps a b c d e =
+      elim (decLt 10000000 (wOf p)) [
+        | yes h ↦ rw (long p h) (told-8 a b c d e h)
+        | no h ↦ rw (not-long p h) (accepted a b c d e h)
+      ]
+
+  -- 2 to 4, then 5, 6, 7, then 8
+  by-order : Not1 f → (a b c d : Judged) → Judges2-4 v (recordsOf f) a → Judges 5 (countOf f) (Line5 p) b
+      → Judges 6 (countOf f) (Line6 p) c
+      → (c ≡ Fine → Judges 7 (countOf f) (Line7 p) d)
+      → Told v f (verdictOf p (then a (then b (then c (then d (tooLong (wOf p)))))))
+  by-order n (Fault m k) b c d w x y z = by-number n (w .0) (w .1)
+  by-order n Fine (Fault m k) c d w x y z = rw (x .0) (told-5 n w (x .1))
+  by-order n Fine Fine (Fault m k) d w x y z = rw (y .0) (told-6 n w x (y .1))
+  by-order n Fine Fine Fine (Fault m k) w x y z = let r = z refl in rw (r .0) (told-7 n w x y (r .1))
+  by-order n Fine Fine Fine Fine w x y z = by-steps n w x y (z refl)
+
+  pub told : Told v f (checkFor v f)
+  unfolding checkFor judgeFile judgeProgram
+  told =
+      picked (Told v f) (framed f) _ _ (λ e.
+      let n = frame-right f e in by-order n J2-4 J5 J6 J7 judged-records judged-rung (judged-structure n) judged-labels)
+      (λ e. told-1 (unframed f e))
+
+  -- ---- and no other answer is told
+
+  -- the check, by its judgements
+  answered : {a b c d e : Judged} → Not1 f → J2-4 ≡ a → J5 ≡ b → J6 ≡ c → J7 ≡ d → tooLong (wOf p) ≡ e
+      → checkFor v f ≡ verdictOf p (then a (then b (then c (then d e))))
+  unfolding checkFor judgeFile judgeProgram
+  answered n a b c d e = rw (right-frame f n, a, b, c, d, e)
+
+  found-2-4 : (m k : ℕ) → ((n : ℕ) → Number v (recordAt f k) n → n ≡ m) → First2-4 v f k → J2-4 ≡ Fault m k
+  found-2-4 m k g h = bad-fault v (recordsOf f) m k g J2-4 judged-records h
+
+  none-2-4 : Not2-4 v f → J2-4 ≡ Fine
+  none-2-4 h = bad-fine v (recordsOf f) J2-4 judged-records h
+
+  none-5 : Not5 f → J5 ≡ Fine
+  none-5 h = judged-fine 5 (countOf f) (Line5 p) J5 judged-rung h
+
+  none-6 : Not1 f → Not6 f → J6 ≡ Fine
+  none-6 n h = judged-fine 6 (countOf f) (Line6 p) J6 (judged-structure n) h
+
+  none-7 : J6 ≡ Fine → Not7 f → J7 ≡ Fine
+  none-7 e h = judged-fine 7 (countOf f) (Line7 p) J7 (judged-labels e) h
+
+  -- what the table says is the check's answer
+  pub answer : {r : Verdict} → Told v f r → checkFor v f ≡ r
+  unfolding checkFor programOf
+  answer (told-1 l) = ap (λ (t : Bool). pick t (verdictOf p (judgeFile v f)) (Refused 1 0)) (wrong-frame f l)
+  answer (told-2 {k = k} n h x) = answered n (found-2-4 2 k (λ m q. only-2 v (recordAt f k) q x) h) refl refl refl refl
+  answer (told-3 {k = k} n h x y) = answered n (found-2-4 3 k (λ m q. only-3 v (recordAt f k) q x y) h) refl refl refl refl
+  answer (told-4 {k = k} n h x y z) = answered n (found-2-4 4 k (λ m q. only-4 v (recordAt f k) q x y z) h) refl refl refl refl
+  answer (told-5 {k = k} n a h) = answered n (none-2-4 a) (judged-fault 5 (countOf f) (Line5 p) k J5 judged-rung h) refl refl refl
+  answer (told-6 {k = k} n a b h) =
+      answered n (none-2-4 a) (none-5 b) (judged-fault 6 (countOf f) (Line6 p) k J6 (judged-structure n) h) refl refl
+  answer (told-7 {k = k} n a b c h) =
+      answered n (none-2-4 a) (none-5 b) (none-6 n c) (judged-fault 7 (countOf f) (Line7 p) k J7 (judged-labels (none-6 n c)) h) refl
+  answer (told-8 n a b c d h) = answered n (none-2-4 a) (none-5 b) (none-6 n c) (none-7 (none-6 n c) d) (long p h)
+  answer (accepted n a b c d h) = answered n (none-2-4 a) (none-5 b) (none-6 n c) (none-7 (none-6 n c) d) (not-long p h)
+
+-- the table determines the answer
+pub only : {v : Device} {f : List ℕ} {r s : Verdict} → Told v f r → Told v f s → r ≡ s
+only {v} {f} a b = sym (answer v f a) ∙ answer v f b
+
+-- the check of an EC20 file
+pub told-of : (f : List ℕ) → Told ec20 f (checkOf f)
+unfolding checkOf
+told-of f = told ec20 f
