@@ -1,0 +1,5 @@
+pub mod Laws
+pub mod Within
+pub mod Tables
+pub mod Bounds
+pub mod Due
