@@ -1,0 +1,2 @@
+-- What the four numbers tell.
+pub mod ToldLaws
