@@ -1,0 +1,15 @@
+use Rattle.step.proofs.WordLaws.{both-parts}
+use Rattle.ec20.specs.Flow.{coilOf}
+use Rattle.ec20.specs.Step.{world}
+use mathlib.Core.Path.{_≡_, ap, ap₂, _∙_}
+use borrow.Author.Needs.{needs}
+use Rattle.step.proofs.coil.Statement.{statement}
+use Rattle.step.proofs.coil.Tie as tie
+
+returns : tie.Need-returns
+returns c = λ x b t l k d v. both-parts l k (rw (← c .before .before .before .before .before .before .before .before .is-on .ensures) (c .before .before .before .before .before .coil .ensures x b t d v)) (c .act .ensures)
+
+pub coil-spec : {M : Type 1} → statement M
+coil-spec =
+    tie.close
+    (tie.spec (λ c κs. search needs) (λ c κs. search needs) (λ c κs. search needs) (λ c. search needs) (λ c. search needs) returns)

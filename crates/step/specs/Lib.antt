@@ -1,0 +1,3 @@
+-- What the step asks of an instruction.
+pub mod Small
+pub mod Ready

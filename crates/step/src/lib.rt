@@ -1,0 +1,224 @@
+// One step: the instructions over memory and state.
+ghost use Prim.Native.Nat.{ℕ, _<_, _≤_, _^_};
+ghost use Rattle.arith.specs.Bounded.{Bounded};
+ghost use Rattle.ec20.specs.Flow.{isOn, acted, contactOf, compareOf, coilOf};
+ghost use Rattle.ec20.specs.Memory.{memory, loadBit, loadOf};
+ghost use Rattle.ec20.specs.Numbers.{half};
+ghost use Rattle.ec20.specs.Code.{programIn};
+ghost use Rattle.ec20.specs.File.{recordsFrom};
+ghost use Rattle.ec20.specs.Step.{World, world, widthOf, settle, wordOf, execOf, stepOf};
+ghost use Rattle.step.specs.Ready.{Running, Due};
+ghost use Rattle.ec20.specs.Timers.{timerOf};
+ghost use lib.IntN.{ℤ};
+ghost use mathlib.Core.List.{List};
+ghost use mathlib.Core.Path.{_≡_};
+use ec20::Instr;
+use ec20::Machine;
+use ec20::Operand;
+use ec20::Outcome;
+
+// The width of a word instruction, by the table.
+fn width(n: usize) -> usize
+    ensures { λ r. ⌜ r ≡ widthOf n ⌝ }
+{
+    let row = instructions::row_of(n);
+    let first = row.first;
+    records::wide(first.width)
+}
+
+// An outcome stored, with its flags; one that is an error changes nothing.
+fn settle_outcome(
+    n: usize,
+    t: Operand,
+    r: Outcome,
+    y: &mut [u8],
+    m: &mut [u8],
+    sm: &mut [u8],
+    d: &mut [i16],
+    s: Machine,
+) -> Machine
+    requires { ⌜ (s .pc < 2 ^ 63) × (t .value < 2 ^ 32) × Bounded (half (widthOf n)) r ⌝ }
+    ensures { λ q. ⌜ ((x c left back : List ℕ) (tv : List ℤ) → world (memory x (now (y .exit)) (now (m .exit)) (now (sm .exit)) c (now (d .exit)) tv) left back q ≡ settle n t r (world (memory x (now (y .entry)) (now (m .entry)) (now (sm .entry)) c (now (d .entry)) tv) left back s)) ⌝ }
+{
+    if r.error != 0 {
+        return flow::fail(s, r.error);
+    }
+    let w = width(n);
+    operands::store_all(w, t, r, y, m, sm, d);
+    flow::act(s)
+}
+
+// A word instruction: with flow the sources are read, the outcome is worked out and settled; without it nothing is done.
+fn word(
+    n: usize,
+    a: Operand,
+    b: Operand,
+    t: Operand,
+    x: &[u8],
+    y: &mut [u8],
+    m: &mut [u8],
+    sm: &mut [u8],
+    d: &mut [i16],
+    tv: &[i16],
+    s: Machine,
+) -> Machine
+    requires { ⌜ (s .pc < 2 ^ 63) × (a .value < 2 ^ 32) × (b .value < 2 ^ 32) × (t .value < 2 ^ 32) ⌝ }
+    ensures { λ q. ⌜ ((c left back : List ℕ) → world (memory (now (x .entry)) (now (y .exit)) (now (m .exit)) (now (sm .exit)) c (now (d .exit)) (now (tv .entry))) left back q ≡ wordOf n a b t (world (memory (now (x .entry)) (now (y .entry)) (now (m .entry)) (now (sm .entry)) c (now (d .entry)) (now (tv .entry))) left back s)) ⌝ }
+{
+    if !flow::is_on(s) {
+        return flow::act(s);
+    }
+    let w = width(n);
+    let u = operands::load(w, a, x, y, m, d, tv);
+    let v = operands::load(w, b, x, y, m, d, tv);
+    let r = arith::compute(n, bits::half_of(w), u, v);
+    settle_outcome(n, t, r, y, m, sm, d, s)
+}
+
+// LD, LDI, AND, ANI, OR, ORI.
+fn contact<'a>(
+    n: usize,
+    o: Operand,
+    x: &'a [u8],
+    y: &'a [u8],
+    m: &'a [u8],
+    sm: &'a [u8],
+    t: &'a [u8],
+    s: Machine,
+) -> Machine
+    requires { ⌜ s .pc < 2 ^ 63 ⌝ }
+    ensures { λ q. ⌜ ((d tv : List ℤ) → q ≡ contactOf n (loadBit o (memory (now (x .entry)) (now (y .entry)) (now (m .entry)) (now (sm .entry)) (now (t .entry)) d tv)) s) ⌝ }
+{
+    flow::contact(n, operands::load_bit(o, x, y, m, sm, t), s)
+}
+
+// LD=, LD>, LD<: the first source against the second.
+fn compare<'a>(
+    n: usize,
+    a: Operand,
+    b: Operand,
+    x: &'a [u8],
+    y: &'a [u8],
+    m: &'a [u8],
+    d: &[i16],
+    tv: &[i16],
+    s: Machine,
+) -> Machine
+    requires { ⌜ (s .pc < 2 ^ 63) × (a .value < 2 ^ 32) × (b .value < 2 ^ 32) ⌝ }
+    ensures { λ q. ⌜ ((sm t : List ℕ) → q ≡ compareOf n (loadOf 16 a (memory (now (x .entry)) (now (y .entry)) (now (m .entry)) sm t (now (d .entry)) (now (tv .entry)))) (loadOf 16 b (memory (now (x .entry)) (now (y .entry)) (now (m .entry)) sm t (now (d .entry)) (now (tv .entry)))) s) ⌝ }
+{
+    let u = operands::load(16, a, x, y, m, d, tv);
+    let v = operands::load(16, b, x, y, m, d, tv);
+    flow::compare(n, u, v, s)
+}
+
+// OUT, SET, RST.
+fn coil(n: usize, o: Operand, y: &mut [u8], m: &mut [u8], s: Machine) -> Machine
+    requires { ⌜ s .pc < 2 ^ 63 ⌝ }
+    ensures { λ q. ⌜ ((x sm t left back : List ℕ) (d tv : List ℤ) → world (memory x (now (y .exit)) (now (m .exit)) sm t d tv) left back q ≡ world (coilOf n o (isOn s) (memory x (now (y .entry)) (now (m .entry)) sm t d tv)) left back (acted s)) ⌝ }
+{
+    operands::coil(n, o, flow::is_on(s), y, m);
+    flow::act(s)
+}
+
+// TON.
+fn timer(
+    elapsed: usize,
+    i: usize,
+    constant: usize,
+    t: &mut [u8],
+    tv: &mut [i16],
+    s: Machine,
+) -> Machine
+    requires { ⌜ (s .pc < 2 ^ 63) × (elapsed ≤ 32767) ⌝ }
+    ensures { λ q. ⌜ ((x y m sm left back : List ℕ) (d : List ℤ) → world (memory x y m sm (now (t .exit)) d (now (tv .exit))) left back q ≡ world (timerOf elapsed i constant (isOn s) (memory x y m sm (now (t .entry)) d (now (tv .entry)))) left back (acted s)) ⌝ }
+{
+    operands::timer(elapsed, i, constant, flow::is_on(s), t, tv);
+    flow::act(s)
+}
+
+// The instruction that is due, on memory and state.
+pub fn exec(
+    i: Instr,
+    f: &[u8],
+    first: usize,
+    count: usize,
+    nexts: &[usize; 2000],
+    places: &[usize; 128],
+    e: usize,
+    x: &[u8],
+    y: &mut [u8],
+    m: &mut [u8],
+    sm: &mut [u8],
+    t: &mut [u8],
+    d: &mut [i16],
+    tv: &mut [i16],
+    left: &mut [usize; 8],
+    back: &mut [usize; 8],
+    s: Machine,
+) -> Machine
+    requires { ⌜ Running (now f) first count (now nexts) (now places) e ⌝ }
+    requires { ⌜ Due (now f) first count i s ⌝ }
+    ensures { λ q. ⌜ world (memory (now (x .entry)) (now (y .exit)) (now (m .exit)) (now (sm .exit)) (now (t .exit)) (now (d .exit)) (now (tv .exit))) (now (left .exit)) (now (back .exit)) q ≡ execOf (programIn (recordsFrom (now (f .entry)) first count)) e i (world (memory (now (x .entry)) (now (y .entry)) (now (m .entry)) (now (sm .entry)) (now (t .entry)) (now (d .entry)) (now (tv .entry))) (now (left .entry)) (now (back .entry)) s) ⌝ }
+{
+    match i {
+        Instr::Nop => flow::go_on(s),
+        Instr::Contact(n, o) => contact(n, o, x, y, m, sm, t, s),
+        Instr::Compare(n, a, b) => compare(n, a, b, x, y, m, d, tv, s),
+        Instr::Join(n) => flow::join(n, s),
+        Instr::Branch(n) => flow::branch(n, s),
+        Instr::Coil(n, o) => coil(n, o, y, m, s),
+        Instr::Timer(k, c) => timer(e, k, c, t, tv, s),
+        Instr::For(c) => jumps::open_loop(c, nexts, left, back, s),
+        Instr::Next => jumps::close_loop(left, back, s),
+        Instr::Jump(l) => jumps::jump(f, first, count, places, l, s),
+        Instr::Label(_) => flow::go_to(s, s.pc + 1, s.depth),
+        Instr::End => flow::stop(s),
+        Instr::Word(n, a, b, u) => word(n, a, b, u, x, y, m, sm, d, tv, s),
+    }
+}
+
+// One step: the record due is decoded and executed.
+pub fn step(
+    f: &[u8],
+    first: usize,
+    count: usize,
+    nexts: &[usize; 2000],
+    places: &[usize; 128],
+    e: usize,
+    x: &[u8],
+    y: &mut [u8],
+    m: &mut [u8],
+    sm: &mut [u8],
+    t: &mut [u8],
+    d: &mut [i16],
+    tv: &mut [i16],
+    left: &mut [usize; 8],
+    back: &mut [usize; 8],
+    s: Machine,
+) -> Machine
+    requires { ⌜ Running (now f) first count (now nexts) (now places) e ⌝ }
+    requires { ⌜ (s .depth ≤ 8) × (s .pc < 2 ^ 63) ⌝ }
+    ensures { λ q. ⌜ world (memory (now (x .entry)) (now (y .exit)) (now (m .exit)) (now (sm .exit)) (now (t .exit)) (now (d .exit)) (now (tv .exit))) (now (left .exit)) (now (back .exit)) q ≡ stepOf (programIn (recordsFrom (now (f .entry)) first count)) e (world (memory (now (x .entry)) (now (y .entry)) (now (m .entry)) (now (sm .entry)) (now (t .entry)) (now (d .entry)) (now (tv .entry))) (now (left .entry)) (now (back .entry)) s) ⌝ }
+{
+    let i = decode::instr_at(f, first, count, s.pc);
+    exec(
+        i,
+        f,
+        first,
+        count,
+        nexts,
+        places,
+        e,
+        x,
+        y,
+        m,
+        sm,
+        t,
+        d,
+        tv,
+        left,
+        back,
+        s,
+    )
+}
