@@ -1,11 +1,11 @@
 -- What the arms of the code come to, as the definitions say it. Assumes nothing.
-use mathlib.Core.Path.{_≡_, refl, ap, ap₂, _∙_}
-use mathlib.Core.Bool.{Bool, true, false, _||_}
+use mathlib.Core.Path.{_≡_, refl, sym, ap, ap₂, _∙_}
+use mathlib.Core.Bool.{Bool, true, false, _&&_, _||_}
 use mathlib.Core.List.{List}
-use Prim.Native.Nat.{ℕ, _^_, _<_, _≤_}
+use Prim.Native.Nat.{ℕ, _*_, _^_, _<_, _≤_}
 use native.Mathlib.Omega.{arith}
-use borrow.Author.Tests.{eq-eqb, ne-eqb}
-use lib.Dec.{eqb}
+use borrow.Author.Tests.{eq-eqb, ne-eqb, eqb-true}
+use lib.Dec.{eqb, leb}
 use lib.IntN.{ℤ, pos, negsuc}
 use lib.ListN.{getD, set}
 use lib.Signed.{mag, ltZ}
@@ -14,13 +14,14 @@ use mir.Val.{toZ, ofZ, boolByte}
 use Rattle.ec20.specs.declared.Operand.{Operand}
 use Rattle.ec20.specs.declared.Outcome.{Outcome}
 use Rattle.ec20.specs.Basics.{pick, one-if}
-use Rattle.ec20.specs.Numbers.{half}
+use Rattle.ec20.specs.Numbers.{half, signed}
 use Rattle.ec20.specs.Registers.{wordAt, numberAt, withNumber}
-use Rattle.ec20.specs.Bits.{withBit, groupAt, withGroup}
+use Rattle.ec20.specs.Bits.{packed, withBit, groupAt, withGroup}
 use Rattle.ec20.specs.Memory.{Memory, memory, groupBits, storeBit, constantAt, loadOf, storeOf, following, withSM}
 use Rattle.ec20.specs.Words.{withFlags, storeAll}
 use Rattle.ec20.specs.Flow.{coilOf}
 use Rattle.ec20.specs.Timers.{unitsOf, oldOf, countedOf, contactIs, limitAt, timerOf}
+use Rattle.ints.proofs.TwosLaws.{signed-small}
 use Rattle.ints.proofs.Parts.{said, ltZ-true}
 
 -- a number that a call answers and that is handed on: what it is, and its range
@@ -49,13 +50,34 @@ module _ (w : ℕ) (o : Operand) (x y m : List ℕ) (d tv : List ℤ) {r : ℤ} 
   unfolding loadOf
   read-d k e sm t = rw k e
 
-  pub read-group : (bs : List ℕ) → (o .kind ≡ 1 → ⊥) → (o .kind ≡ 6 → ⊥) → (o .kind ≡ 7 → ⊥)
-      → ((sm t : List ℕ) (d tv : List ℤ) → bs ≡ groupBits (o .kind) (memory x y m sm t d tv))
-      → r ≡ groupAt w bs (o .value) (o .group) → (sm t : List ℕ) → r ≡ loadOf w o (memory x y m sm t d tv)
-  unfolding loadOf
-  read-group bs k1 k6 k7 b e sm t =
-      rw (ne-eqb _ _ k1, ne-eqb _ _ k6, ne-eqb _ _ k7)
-      (e ∙ ap (λ (l : List ℕ). groupAt w l (o .value) (o .group)) (b sm t d tv))
+  pub read-x : o .kind ≡ 2 → r ≡ groupAt w x (o .value) (o .group) → (sm t : List ℕ) → r ≡ loadOf w o (memory x y m sm t d tv)
+  unfolding loadOf groupBits
+  read-x k e sm t = rw k e
+
+  pub read-y : o .kind ≡ 3 → r ≡ groupAt w y (o .value) (o .group) → (sm t : List ℕ) → r ≡ loadOf w o (memory x y m sm t d tv)
+  unfolding loadOf groupBits
+  read-y k e sm t = rw k e
+
+  -- a group of M stands for all other kinds
+  pub read-m : eqb (o .kind) 1 ≡ false → eqb (o .kind) 7 ≡ false → (o .kind ≡ 6 → ⊥) → (o .kind ≡ 2 → ⊥) → (o .kind ≡ 3 → ⊥) → r ≡ groupAt w m (o .value) (o .group) → (sm t : List ℕ) → r ≡ loadOf w o (memory x y m sm t d tv)
+  unfolding loadOf groupBits
+  read-m k1 k7 k6 k2 k3 e sm t = rw (k1, ne-eqb _ _ k6, k7, ne-eqb _ _ k2, ne-eqb _ _ k3) e
+
+none-by : (b : Bool) (bs : List ℕ) (i : ℕ) → signed (pick b (2 ^ 15) (2 ^ 31)) (packed bs i (pick (leb (4 * 0) (pick b 16 32)) (4 * 0) (pick b 16 32))) ≡ pos 0
+unfolding packed
+none-by true bs i = signed-small 32768 0 (omega arith)
+none-by false bs i = signed-small 2147483648 0 (omega arith)
+
+-- an operand that is none reads 0: it is a group of no bits
+pub read-none : (w : ℕ) (o : Operand) (x y m : List ℕ) (d tv : List ℤ) → (eqb (o .kind) 0 && eqb (o .group) 0) ≡ true → (sm t : List ℕ) → pos 0 ≡ loadOf w o (memory x y m sm t d tv)
+unfolding loadOf groupBits groupAt
+read-none w o x y m d tv e sm t =
+    let b = both (eqb (o .kind) 0) (eqb (o .group) 0) e in
+    rw (eqb-true (o .kind) 0 (b .0), eqb-true (o .group) 0 (b .1)) (sym (none-by (eqb w 16) m (o .value)))
+  where
+    both : (a b : Bool) → (a && b) ≡ true → (a ≡ true) × (b ≡ true)
+    both true b h = (refl, h)
+    both false b h = let z : _≡_ {A = ℕ} 0 1 = cc in absurd (omega arith)
 
 -- a target, by its kind
 module _ (w : ℕ) (o : Operand) (z : ℤ) (x y m sm t : List ℕ) (d tv : List ℤ) where
@@ -71,9 +93,9 @@ module _ (w : ℕ) (o : Operand) (z : ℤ) (x y m sm t : List ℕ) (d tv : List 
   unfolding storeOf
   into-m k e = rw (k, e)
 
-  pub into-none : (o .kind ≡ 7 → ⊥) → (o .kind ≡ 3 → ⊥) → (o .kind ≡ 4 → ⊥) → memory x y m sm t d tv ≡ storeOf w o z (memory x y m sm t d tv)
+  pub into-none : eqb (o .kind) 7 ≡ false → (o .kind ≡ 3 → ⊥) → (o .kind ≡ 4 → ⊥) → memory x y m sm t d tv ≡ storeOf w o z (memory x y m sm t d tv)
   unfolding storeOf
-  into-none k7 k3 k4 = rw (ne-eqb _ _ k7, ne-eqb _ _ k3, ne-eqb _ _ k4)
+  into-none k7 k3 k4 = rw (k7, ne-eqb _ _ k3, ne-eqb _ _ k4)
 
 -- a coil's bit, by its kind
 module _ (o : Operand) (b : ℕ) (x y m sm t : List ℕ) (d tv : List ℤ) where

@@ -1,8 +1,11 @@
 // Operands over the lent memory: what each reads and writes of it. A program touches memory only here: bits of X, Y, M, SM and T contacts,
 // D words and T values. Each contract is one equation over the whole memory, whatever the tables are that a function does not hold.
+// Groups and T values, which are rare, stand in `other` and `store_group`, each called from two places, so that they are not inlined and
+// what calls them is.
 use ec20::Operand;
 use ec20::Outcome;
 ghost use mathlib.Core.Path.{_≡_};
+ghost use mathlib.Core.Bool.{false, _&&_};
 ghost use mathlib.Core.List.{List};
 ghost use Prim.Native.Nat.{ℕ, _/_, _<_, _≤_, _^_};
 ghost use lib.Dec.{eqb};
@@ -10,7 +13,7 @@ ghost use lib.IntN.{ℤ};
 ghost use lib.Signed.{mag};
 ghost use Rattle.ec20.specs.Basics.{pick, one-if};
 ghost use Rattle.ec20.specs.Numbers.{bitsIn, half};
-ghost use Rattle.ec20.specs.Memory.{memory, bitsOf, groupBits, loadBit, storeBit, constantAt, loadOf, storeOf, following};
+ghost use Rattle.ec20.specs.Memory.{memory, bitsOf, loadBit, storeBit, constantAt, loadOf, storeOf, following};
 ghost use Rattle.ec20.specs.Words.{withFlags, storeAll};
 ghost use Rattle.ec20.specs.Flow.{coilOf};
 ghost use Rattle.ec20.specs.Timers.{unitsOf, oldOf, countedOf, contactIs, limitAt, timerOf};
@@ -51,17 +54,6 @@ pub fn load_bit<'a>(
     bits::bit_at(bits, o.value) == 1
 }
 
-// "a group of 4n bits of X, Y or M": the bits of the kind.
-fn group_bits<'a>(k: usize, x: &'a [u8], y: &'a [u8], m: &'a [u8]) -> &'a [u8]
-    ensures { λ r. ⌜ ((sm t : List ℕ) (d tv : List ℤ) → now r ≡ groupBits k (memory (now (x .entry)) (now (y .entry)) (now (m .entry)) sm t d tv)) ⌝ }
-{
-    match k {
-        2 => x,
-        3 => y,
-        _ => m,
-    }
-}
-
 // "constant (two's complement)": the value as a number of w bits.
 fn constant(w: usize, o: Operand) -> i64
     ensures { λ r. ⌜ (r ≡ constantAt w o) × (mag r < half w) ⌝ }
@@ -73,40 +65,80 @@ fn constant(w: usize, o: Operand) -> i64
     }
 }
 
-// A source of w bits: "a constant .., a group .., T (its value) or D", at 32 bits "a D pair".
-pub fn load<'a>(
-    w: usize,
-    o: Operand,
-    x: &'a [u8],
-    y: &'a [u8],
-    m: &'a [u8],
-    d: &[i16],
-    tv: &[i16],
-) -> i64
+// "Kinds: 0 none", as the second source where there is one only.
+fn nothing(o: Operand) -> bool
+    ensures { λ r. ⌜ r ≡ (eqb (o .kind) 0 && eqb (o .group) 0) ⌝ }
+{
+    (o.kind == 0) & (o.group == 0)
+}
+
+// A source of w bits that is neither a constant nor D: "T (its value)", or "a group of 4n bits of X, Y or M".
+fn other(w: usize, o: Operand, x: &[u8], y: &[u8], m: &[u8], tv: &[i16]) -> i64
+    requires { ⌜ (o .value < 2 ^ 32) × (eqb (o .kind) 1 ≡ false) × (eqb (o .kind) 7 ≡ false) ⌝ }
+    ensures { λ r. ⌜ ((sm t : List ℕ) (d : List ℤ) → r ≡ loadOf w o (memory (now (x .entry)) (now (y .entry)) (now (m .entry)) sm t d (now (tv .entry)))) × (mag r < half w) ⌝ }
+{
+    let k = o.kind;
+    match k {
+        6 => words::word_at(tv, o.value),
+        2 => bits::group_at(x, o.value, o.group, w),
+        3 => bits::group_at(y, o.value, o.group, w),
+        _ => bits::group_at(m, o.value, o.group, w),
+    }
+}
+
+// A source of w bits: "a constant .., a group .., T (its value) or D", at 32 bits "a D pair"; none, where there is no second source, reads 0.
+pub fn load(w: usize, o: Operand, x: &[u8], y: &[u8], m: &[u8], d: &[i16], tv: &[i16]) -> i64
     requires { ⌜ o .value < 2 ^ 32 ⌝ }
     ensures { λ r. ⌜ ((sm t : List ℕ) → r ≡ loadOf w o (memory (now (x .entry)) (now (y .entry)) (now (m .entry)) sm t (now (d .entry)) (now (tv .entry)))) × (mag r < half w) ⌝ }
 {
     let k = o.kind;
     match k {
-        1 => constant(w, o),
-        6 => words::word_at(tv, o.value),
         7 => words::number_at(d, o.value, w),
-        _ => bits::group_at(group_bits(k, x, y, m), o.value, o.group, w),
+        1 => constant(w, o),
+        _ => if nothing(o) {
+            0
+        } else {
+            other(w, o, x, y, m, tv)
+        },
     }
 }
 
-// A target of w bits: "groups of Y or M .., or D".
-fn store(w: usize, o: Operand, z: i64, y: &mut [u8], m: &mut [u8], d: &mut [i16])
-    requires { ⌜ (o .value < 2 ^ 33) × (mag z < half w) ⌝ }
-    ensures { λ _. ⌜ ((x sm t : List ℕ) (tv : List ℤ) → memory x (now (y .exit)) (now (m .exit)) sm t (now (d .exit)) tv ≡ storeOf w o z (memory x (now (y .entry)) (now (m .entry)) sm t (now (d .entry)) tv)) ⌝ }
+// A source of 16 bits, for the comparisons: "two sources, 16-bit".
+pub fn load_word(o: Operand, x: &[u8], y: &[u8], m: &[u8], d: &[i16], tv: &[i16]) -> i64
+    requires { ⌜ o .value < 2 ^ 32 ⌝ }
+    ensures { λ r. ⌜ ((sm t : List ℕ) → r ≡ loadOf 16 o (memory (now (x .entry)) (now (y .entry)) (now (m .entry)) sm t (now (d .entry)) (now (tv .entry)))) × (mag r < half 16) ⌝ }
 {
     let k = o.kind;
     match k {
-        7 => words::put_number(d, o.value, w, z),
+        7 => words::word_at(d, o.value),
+        1 => constant(16, o),
+        _ => other(16, o, x, y, m, tv),
+    }
+}
+
+// A target of w bits that is not D: "groups of Y or M".
+fn store_group(w: usize, o: Operand, z: i64, y: &mut [u8], m: &mut [u8])
+    requires { ⌜ (o .value < 2 ^ 33) × (mag z < half w) × (eqb (o .kind) 7 ≡ false) ⌝ }
+    ensures { λ _. ⌜ ((x sm t : List ℕ) (d tv : List ℤ) → memory x (now (y .exit)) (now (m .exit)) sm t d tv ≡ storeOf w o z (memory x (now (y .entry)) (now (m .entry)) sm t d tv)) ⌝ }
+{
+    let k = o.kind;
+    match k {
         3 => bits::put_group(y, o.value, o.group, w, z),
         4 => bits::put_group(m, o.value, o.group, w, z),
         _ => {}
     }
+}
+
+// A target of w bits: "groups of Y or M .., or D".
+pub fn store(w: usize, o: Operand, z: i64, y: &mut [u8], m: &mut [u8], d: &mut [i16])
+    requires { ⌜ (o .value < 2 ^ 33) × (mag z < half w) ⌝ }
+    ensures { λ _. ⌜ ((x sm t : List ℕ) (tv : List ℤ) → memory x (now (y .exit)) (now (m .exit)) sm t (now (d .exit)) tv ≡ storeOf w o z (memory x (now (y .entry)) (now (m .entry)) sm t (now (d .entry)) tv)) ⌝ }
+{
+    if o.kind == 7 {
+        words::put_number(d, o.value, w, z);
+        return;
+    }
+    store_group(w, o, z, y, m);
 }
 
 // How many words a number of w bits takes in D: one at 16, two at 32.
@@ -133,9 +165,15 @@ fn second(w: usize, o: Operand, r: Outcome, y: &mut [u8], m: &mut [u8], d: &mut 
     requires { ⌜ (o .value < 2 ^ 32) × (mag (r .second) < half w) ⌝ }
     ensures { λ _. ⌜ ((x sm t : List ℕ) (tv : List ℤ) → memory x (now (y .exit)) (now (m .exit)) sm t (now (d .exit)) tv ≡ pick (eqb (r .two) 1) (storeOf w (following w o) (r .second) (memory x (now (y .entry)) (now (m .entry)) sm t (now (d .entry)) tv)) (memory x (now (y .entry)) (now (m .entry)) sm t (now (d .entry)) tv)) ⌝ }
 {
-    if r.two == 1 {
-        store(w, next(w, o), r.second, y, m, d);
+    if r.two != 1 {
+        return;
     }
+    let n = next(w, o);
+    if n.kind == 7 {
+        words::put_number(d, n.value, w, r.second);
+        return;
+    }
+    store_group(w, n, r.second, y, m);
 }
 
 // "SM180 on exactly if the exact result is 0, SM181 if it is above the width's range, SM182 if below"; nothing where flags stay.
@@ -215,9 +253,10 @@ fn old(z: i64) -> usize
     ensures { λ r. ⌜ (r ≡ oldOf z) × (r < 2 ^ 15) ⌝ }
 {
     if ints::less(z, 0) {
-        return 0;
+        0
+    } else {
+        ints::plain(z) as usize
     }
-    ints::plain(z) as usize
 }
 
 // "value becomes the smaller of the constant and (old value, or 0 if negative, plus elapsed units)"; "Without flow: value 0".

@@ -107,8 +107,8 @@ fn compare<'a>(
     requires { ⌜ (s .pc < 2 ^ 63) × (a .value < 2 ^ 32) × (b .value < 2 ^ 32) ⌝ }
     ensures { λ q. ⌜ ((sm t : List ℕ) → q ≡ compareOf n (loadOf 16 a (memory (now (x .entry)) (now (y .entry)) (now (m .entry)) sm t (now (d .entry)) (now (tv .entry)))) (loadOf 16 b (memory (now (x .entry)) (now (y .entry)) (now (m .entry)) sm t (now (d .entry)) (now (tv .entry)))) s) ⌝ }
 {
-    let u = operands::load(16, a, x, y, m, d, tv);
-    let v = operands::load(16, b, x, y, m, d, tv);
+    let u = operands::load_word(a, x, y, m, d, tv);
+    let v = operands::load_word(b, x, y, m, d, tv);
     flow::compare(n, u, v, s)
 }
 

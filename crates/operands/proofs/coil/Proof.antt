@@ -6,8 +6,12 @@ use Rattle.operands.proofs.coil.Tie as tie
 
 returns : tie.Need-returns
 returns c =
-    let a = c .before .before .before .before .before .before .before .before .before .before .before .args in
-    λ x sm t d tv. coil-acts (a .n) (a .o) (a .on) _ (c .before .before .before .before .before .before .before .before .if1 .taken) (c .before .before .before .before .before .before .before .written .ensures .0) (c .before .before .before .before .store-bit .ensures x sm t d tv)
+    let at-store-bit = c .before .before .before .before in
+    let at-written = at-store-bit .before .before .before in
+    let at-if1 = at-written .before in
+    let start = at-if1 .before .before .before in
+    let a = start .args in
+    λ x sm t d tv. coil-acts (a .n) (a .o) (a .on) _ (at-if1 .if1 .taken) (at-written .written .ensures .0) (at-store-bit .store-bit .ensures x sm t d tv)
 
 returns-2 : tie.Need-returns-2
 returns-2 c =

@@ -6,7 +6,13 @@ use Rattle.operands.proofs.flags.Statement.{statement}
 use Rattle.operands.proofs.flags.Tie as tie
 
 returns : tie.Need-returns
-returns c = flags-put (c .before .before .before .before .before .before .before .before .before .before .before .before .before .before .before .args .r) _ _ _ (c .before .before .before .before .before .before .before .before .before .before .before .before .if1 .taken) (c .before .before .before .before .before .before .before .before .before .before .put-bit .ensures) (c .before .before .before .before .before .before .put-bit2 .ensures) (c .before .before .put-bit3 .ensures)
+returns c =
+    let at-put-bit3 = c .before .before in
+    let at-put-bit2 = at-put-bit3 .before .before .before .before in
+    let at-put-bit = at-put-bit2 .before .before .before .before in
+    let at-if1 = at-put-bit .before .before in
+    let start = at-if1 .before .before .before in
+    flags-put (start .args .r) _ _ _ (at-if1 .if1 .taken) (at-put-bit .put-bit .ensures) (at-put-bit2 .put-bit2 .ensures) (at-put-bit3 .put-bit3 .ensures)
 
 returns-2 : tie.Need-returns-2
 returns-2 c = rw (ne-eqb _ _ (c .if1 .left))

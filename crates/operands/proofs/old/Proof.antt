@@ -22,4 +22,4 @@ returns-2 c =
     (ap oldOf e, rw (ap mag e) (c .before .before .before .pre))
 
 pub old-spec : {M : Type 1} → statement M
-old-spec = tie.close (tie.spec (λ c κs. search needs) returns plain-requires returns-2)
+old-spec = tie.close (tie.spec (λ c κs. search needs) plain-requires returns returns-2)

@@ -1,44 +1,40 @@
--- By the kind. Assumes nothing.
+-- D, else a group. Assumes nothing.
+use borrow.Author.Tests.{ne-eqb}
 use mathlib.Core.Path.{ap, _∙_}
+use lib.IntN.{ℤ}
 use mir.Facts.{toZ-ofZ}
-use Rattle.operands.proofs.Steps.{into-d, into-y, into-m, into-none}
+use native.Mathlib.Omega.{arith}
+use Rattle.operands.proofs.Steps.{into-d}
 use Rattle.ec20.specs.Registers.{withNumber}
-use Rattle.ec20.specs.Bits.{withGroup}
+use Rattle.ec20.specs.Memory.{memory, storeOf}
 use borrow.Author.Needs.{needs}
 use Rattle.operands.proofs.store.Statement.{statement}
 use Rattle.operands.proofs.store.Tie as tie
 
 returns : tie.Need-returns
 returns c =
-    let a = c .before .before .before .before .before .before .args in
-    λ x sm t tv. into-d _ _ _ _ _ _ _ _ _ _ (c .before .before .before .match .keys1) (c .before .put-number .ensures ∙ ap (withNumber (a .w) (a .d .now) (a .o .value)) (toZ-ofZ (c .before .before .before .before .before .before .fits .z)))
+    let f = c .before .before .before .before .before .before .before in
+    let a = f .args in
+    λ x sm t tv. into-d _ _ _ _ _ _ _ _ _ _ (c .before .before .before .if1 .taken) (c .before .put-number .ensures ∙ ap (withNumber (a .w) (a .d .now) (a .o .value)) (toZ-ofZ (f .fits .z)))
+
+store-group-requires : tie.Need-store-group-requires
+store-group-requires c κs = (omega (arith, c .before .before .before .before .before .before .pre .0), rw (toZ-ofZ (c .before .before .before .before .before .before .fits .z)) (c .before .before .before .before .before .before .pre .1), ne-eqb _ _ (c .before .before .if1 .left))
 
 returns-2 : tie.Need-returns-2
 returns-2 c =
-    let a = c .before .before .before .before .before .before .before .args in
-    λ x sm t tv. into-y _ _ _ _ _ _ _ _ _ _ (c .before .before .before .before .match .keys2) (c .before .before .put-group .ensures ∙ ap (withGroup (a .w) (a .y .now) (a .o .value) (a .o .group)) (toZ-ofZ (c .before .before .before .before .before .before .before .fits .z)))
-
-returns-3 : tie.Need-returns-3
-returns-3 c =
-    let a = c .before .before .before .before .before .before .before .args in
-    λ x sm t tv. into-m _ _ _ _ _ _ _ _ _ _ (c .before .before .before .before .match .keys3) (c .before .before .put-group2 .ensures ∙ ap (withGroup (a .w) (a .m .now) (a .o .value) (a .o .group)) (toZ-ofZ (c .before .before .before .before .before .before .before .fits .z)))
-
-returns-4 : tie.Need-returns-4
-returns-4 c =
-    let n = c .match .rest in
-    λ x sm t tv. into-none _ _ _ _ _ _ _ _ _ _ (n .0 .0 .1) (n .0 .1) (n .1)
+    let at-store-group = c .before .before .before .before in
+    let start = at-store-group .before .before .before .before .before .before .before in
+    let a = start .args in
+    λ x sm t tv. at-store-group .store-group .ensures x sm t (a .d .now) tv ∙ ap (λ (v : ℤ). storeOf (a .w) (a .o) v (memory x (a .y .now) (a .m .now) sm t (a .d .now) tv)) (toZ-ofZ (start .fits .z))
 
 pub store-spec : {M : Type 1} → statement M
 store-spec =
     tie.close
     (tie.spec
     (λ c κs. search needs)
-    (λ c κs. search needs)
-    (λ c κs. search needs)
     (λ c. search needs)
     returns
+    store-group-requires
     (λ c. search needs)
-    returns-2
     (λ c. search needs)
-    returns-3
-    returns-4)
+    returns-2)

@@ -11,8 +11,12 @@ use Rattle.operands.proofs.store_all.Tie as tie
 
 returns : tie.Need-returns
 returns c =
-    let a = c .before .before .before .before .before .before .before .before .before .before .before .before .before .before .before .before .before .before .before .before .before .before .before .before .before .before .args in
-    all-stored (a .w) (a .o) (a .r) _ _ _ _ _ _ _ _ _ _ _ _ (said w64 {z = a .r .value} (omega (arith, c .before .before .before .before .before .before .before .before .before .before .before .before .before .before .before .before .before .before .before .before .before .before .before .before .before .before .pre .1 .value-fits, width-bounds (a .w))) refl) (c .before .before .before .before .before .before .before .before .before .before .before .before .before .before .before .before .before .before .store .ensures) (c .before .before .before .before .before .before .before .before .before .second .ensures) (c .before .before .flags .ensures)
+    let at-flags = c .before .before in
+    let at-second = at-flags .before .before .before .before .before .before .before in
+    let at-store = at-second .before .before .before .before .before .before .before .before .before in
+    let start = at-store .before .before .before .before .before .before .before .before in
+    let a = start .args in
+    all-stored (a .w) (a .o) (a .r) _ _ _ _ _ _ _ _ _ _ _ _ (said w64 {z = a .r .value} (omega (arith, start .pre .1 .value-fits, width-bounds (a .w))) refl) (at-store .store .ensures) (at-second .second .ensures) (at-flags .flags .ensures)
 
 pub store-all-spec : {M : Type 1} → statement M
 store-all-spec =

@@ -16,11 +16,19 @@ put-word-requires c κs = told 32768 (c .whole .ok) (c .whole .ensures) (omega (
 
 returns : tie.Need-returns
 returns c =
-    let a = c .before .before .before .before .before .before .before .before .before .before .before .before .before .before .args in
-    timed (a .elapsed) (a .i) (a .constant) (a .on) (a .t .now) (a .tv .now) (c .before .before .before .before .before .before .before .before .before .counted .result)
-    (c .before .before .before .before .before .before .before .before .before .counted .ensures .0 ∙ ap₂ (countedOf (a .on) (limitAt (a .constant))) (c .before .before .before .before .before .before .before .before .before .before .before .before .units .ensures .0) (said w64 (c .before .before .before .before .before .before .before .before .before .before .word-at .ok) (c .before .before .before .before .before .before .before .before .before .before .word-at .ensures .0)))
-    (c .before .before .before .before .before .before .put-bit .ensures ∙ ap (withBit (a .t .now) (a .i)) (c .before .before .before .before .before .before .before .contact .ensures .0))
-    (c .before .put-word .ensures ∙ ap (set (a .tv .now) (a .i)) (said w64 (c .before .before .whole .ok) (c .before .before .whole .ensures)))
+    let at-put-word = c .before in
+    let at-whole = at-put-word .before in
+    let at-put-bit = at-whole .before .before .before .before in
+    let at-contact = at-put-bit .before in
+    let at-counted = at-contact .before .before in
+    let at-word-at = at-counted .before in
+    let at-units = at-word-at .before .before in
+    let start = at-units .before .before in
+    let a = start .args in
+    timed (a .elapsed) (a .i) (a .constant) (a .on) (a .t .now) (a .tv .now) (at-counted .counted .result)
+    (at-counted .counted .ensures .0 ∙ ap₂ (countedOf (a .on) (limitAt (a .constant))) (at-units .units .ensures .0) (said w64 (at-word-at .word-at .ok) (at-word-at .word-at .ensures .0)))
+    (at-put-bit .put-bit .ensures ∙ ap (withBit (a .t .now) (a .i)) (at-contact .contact .ensures .0))
+    (at-put-word .put-word .ensures ∙ ap (set (a .tv .now) (a .i)) (said w64 (at-whole .whole .ok) (at-whole .whole .ensures)))
 
 pub timer-spec : {M : Type 1} → statement M
 timer-spec =

@@ -1,0 +1,2 @@
+-- A run under way.
+pub mod Going

@@ -1,0 +1,16 @@
+use mathlib.Core.Path.{refl}
+use borrow.Author.Tests.{eq-eqb, ne-eqb}
+use Rattle.ec20.specs.Scan.{answerOf}
+use Rattle.engine.proofs.answer.Statement.{statement}
+use Rattle.engine.proofs.answer.Tie as tie
+
+returns : tie.Need-returns
+unfolding answerOf
+returns c = rw (eq-eqb _ _ (c .if1 .taken)) refl
+
+returns-2 : tie.Need-returns-2
+unfolding answerOf
+returns-2 c = rw (ne-eqb _ _ (c .if1 .left)) refl
+
+pub answer-spec : {M : Type 1} → statement M
+answer-spec = tie.close (tie.spec returns returns-2)

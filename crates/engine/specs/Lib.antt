@@ -1,0 +1,2 @@
+-- A run from record 0 on.
+pub mod Runs
