@@ -10,8 +10,9 @@ use borrow.Author.Tests.{eq-eqb, ne-eqb}
 use Rattle.ec20.specs.Basics.{pick}
 use Rattle.ec20.specs.Code.{Program, programIn}
 use Rattle.ec20.specs.File.{Records}
-use Rattle.ec20.specs.Memory.{Memory}
-use Rattle.ec20.specs.Scan.{Run, Scan, scan, runOf, reported, answerOf, startState}
+use Rattle.ec20.specs.Bits.{withBit}
+use Rattle.ec20.specs.Memory.{Memory, withSM}
+use Rattle.ec20.specs.Scan.{Run, Scan, scan, runOf, runScan, reported, answerOf, startState}
 use Rattle.ec20.specs.Step.{World, world, stepOf}
 use Rattle.ec20.specs.declared.Machine.{Machine}
 use Rattle.ec20.specs.declared.Scanned.{Scanned}
@@ -74,3 +75,8 @@ module _ (rs : Records) (e : ℕ) where
 
     pub going-used : (c : Memory) (l b : List ℕ) (s : Machine) (k : ℕ) {a : Scanned} → Going n c₀ (world c l b s) k → n ≤ k → a ≡ answerOf k s → scan a c ≡ ranFrom (programIn rs) e n c₀
     going-used c l b s k g h q = going-end c l b s k g (run-used (n - k) k (world c l b s) (omega arith)) q
+
+-- a scan is a run once SM0 is on
+pub ran-scan : (p : Program) (e b : ℕ) (c : Memory) {bits : List ℕ} → bits ≡ withBit (c .sm) 0 1 → ranFrom p e b (withSM c bits) ≡ runScan p e b c
+unfolding ranFrom runScan
+ran-scan p e b c g = rw g refl

@@ -1,2 +1,3 @@
 -- A run under way.
 pub mod Going
+pub mod ScanLaws

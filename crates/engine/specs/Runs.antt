@@ -1,10 +1,18 @@
 -- A run from record 0 on, over a memory in which SM0 is as it is: a scan turns it on first.
 use Prim.Native.Nat.{ℕ}
+use mathlib.Core.List.{List}
 use lib.ListN.{replicate}
-use Rattle.ec20.specs.Code.{Program}
+use Rattle.ec20.specs.Basics.{pick}
+use Rattle.ec20.specs.Code.{Program, programOf}
+use Rattle.ec20.specs.Devices.{ec20}
 use Rattle.ec20.specs.Memory.{Memory}
-use Rattle.ec20.specs.Scan.{Scan, runOf, reported, startState}
+use Rattle.ec20.specs.Scan.{Scan, scan, runOf, runScan, reported, startState, fitting}
 use Rattle.ec20.specs.Step.{world}
+use Rattle.ec20.specs.declared.Scanned.the-variants.{Refused}
 
 unfoldable pub ranFrom : Program → ℕ → ℕ → Memory → Scan
 ranFrom p e budget c = reported (runOf p e budget 0 (world c (replicate 8 0) (replicate 8 0) startState))
+
+-- a scan of an accepted program: "The scan adds 9."
+unfoldable pub fittingScan : List ℕ → ℕ → ℕ → Memory → Scan
+fittingScan f e budget c = pick (fitting ec20 e c) (runScan (programOf f) e budget c) (scan (Refused 9 0) c)

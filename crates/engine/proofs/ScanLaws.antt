@@ -1,0 +1,65 @@
+-- A scan by its cases: refused, 9, or the run. Assumes nothing.
+use Prim.Native.Nat.{ℕ, _≤_}
+use mathlib.Core.Bool.{Bool, true, false, _&&_}
+use mathlib.Core.List.{List}
+use mathlib.Core.Path.{_≡_, refl, sym, ap, _∙_}
+use native.Mathlib.Omega.{arith}
+use lib.Dec.{leb}
+use Rattle.ec20.specs.Basics.{pick}
+use Rattle.ec20.specs.Check.{checkFor, checkOf, judgeFile, verdictOf}
+use Rattle.ec20.specs.Code.{Program, programIn, programOf}
+use Rattle.ec20.specs.Devices.{ec20}
+use Rattle.ec20.specs.File.{framed, frameOf, firstOf, countOf, recordsFrom, recordsOf}
+use Rattle.ec20.specs.Memory.{Memory, sized}
+use Rattle.ec20.specs.Scan.{Scan, scan, runScan, fitting, scanIf, scanFor, scanOf}
+use Rattle.ec20.specs.declared.Frame.{Frame}
+use Rattle.ec20.specs.declared.Frame.the-variants.{Whole, Broken}
+use Rattle.ec20.specs.declared.Scanned.{Scanned}
+use Rattle.ec20.specs.declared.Scanned.the-variants.{Refused}
+use Rattle.ec20.specs.declared.Verdict.{Verdict}
+use Rattle.ec20.specs.declared.Verdict.the-variants.{Accepted, Refused as Unfit}
+use Rattle.engine.specs.Runs.{fittingScan}
+
+module _ (f : List ℕ) (e b : ℕ) (c : Memory) where
+  -- by the verdict
+  pub unfit-scan : {v : Verdict} {n k : ℕ} → v ≡ checkOf f → v ≡ Unfit n k → scan (Refused n k) c ≡ scanOf f e b c
+  unfolding scanOf scanFor checkOf
+  unfit-scan g h = rw (sym g ∙ h) refl
+
+  pub fit-scan : {v : Verdict} {n w : ℕ} {o : Scan} → v ≡ checkOf f → v ≡ Accepted n w → o ≡ fittingScan f e b c → o ≡ scanOf f e b c
+  unfolding scanOf scanFor checkOf fittingScan
+  fit-scan g h q = q ∙ rw (sym g ∙ h) refl
+
+  -- by sizes and elapsed units
+  pub nine : {s : Bool} → s ≡ sized ec20 c → (s && leb e 32767) ≡ false → scan (Refused 9 0) c ≡ fittingScan f e b c
+  unfolding fittingScan fitting
+  nine g h = rw (sym g, h) refl
+
+  pub fits : {s : Bool} {o : Scan} {p : Program} → s ≡ sized ec20 c → (s && leb e 32767) ≡ true → p ≡ programOf f → o ≡ runScan p e b c → o ≡ fittingScan f e b c
+  unfolding fittingScan fitting
+  fits g h r q = q ∙ rw (r, sym g, h) refl
+
+apart : {A : Type 0} {a b : ℕ} → _≡_ {A = Frame} Broken (Whole a b) → A
+apart e = let z : _≡_ {A = ℕ} 0 1 = cc in absurd (omega arith)
+
+-- a whole frame names the file's records
+pub whole-program : (f : List ℕ) {x : Frame} {first count : ℕ} → framed f ≡ true → x ≡ frameOf f → x ≡ Whole first count → programIn (recordsFrom f first count) ≡ programOf f
+unfolding frameOf programOf
+whole-program f {first = first} {count = count} h g w =
+    let z : Whole first count ≡ Whole (firstOf f) (countOf f) = sym w ∙ g ∙ rw h refl in
+    let a : first ≡ firstOf f = cc in
+    let d : count ≡ countOf f = cc in
+    rw (a, d) refl
+
+pub not-broken : {A : Type 0} (f : List ℕ) {x : Frame} → framed f ≡ true → x ≡ frameOf f → x ≡ Broken → A
+unfolding frameOf
+not-broken f h g w = let z : Broken ≡ Whole (firstOf f) (countOf f) = sym w ∙ g ∙ rw h refl in apart z
+
+-- an accepted file is framed
+pub accepted-framed : (f : List ℕ) {v : Verdict} {n w : ℕ} → v ≡ checkOf f → v ≡ Accepted n w → framed f ≡ true
+unfolding checkOf checkFor
+accepted-framed f {n = n} {w = w} g h = go (framed f) (sym h ∙ g)
+  where
+    go : (t : Bool) → Accepted n w ≡ pick t (verdictOf (programOf f) (judgeFile ec20 f)) (Unfit 1 0) → t ≡ true
+    go true z = refl
+    go false z = let y : _≡_ {A = ℕ} 0 1 = cc in absurd (omega arith)

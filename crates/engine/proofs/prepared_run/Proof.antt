@@ -1,0 +1,28 @@
+use Rattle.engine.proofs.Going.{ran-scan}
+use native.Mathlib.Omega.{arith}
+use mathlib.Core.Path.{_∙_}
+use borrow.Author.Needs.{needs}
+use Rattle.engine.proofs.prepared_run.Statement.{statement}
+use Rattle.engine.proofs.prepared_run.Tie as tie
+
+run-requires : tie.Need-run-requires
+run-requires c κs = record { held = c .before .before .before .before .before .before .before .before .before .before .before .before .before .before .before .before .before .before .before .before .pre .0; prepared = record { next = c .before .before .before .before .before .before .before .before .before .before .before .before .before .next-places .ensures .0; place = c .before .before .before .before .before .before .before .before .before .before .before .before .label-places .ensures }; near = λ k. omega (arith, c .before .before .before .before .before .before .before .before .before .before .before .before .before .next-places .ensures .1 k, c .before .before .before .before .before .before .before .before .before .before .before .before .before .before .before .before .before .before .before .before .pre .0 .most); elapsed = c .before .before .before .before .before .before .before .before .before .before .before .before .before .before .before .before .before .before .before .before .pre .1 }
+
+returns : tie.Need-returns
+returns c = c .before .before .before .before .before .before .before .before .before .before .run .ensures ∙ ran-scan _ _ _ _ (c .before .before .before .before .before .before .before .before .before .before .before .before .before .before .before .before .before .before .before .before .before .put-bit .ensures)
+
+pub prepared-run-spec : {M : Type 1} → statement M
+prepared-run-spec =
+    tie.close
+    (tie.spec
+    (λ c κs. search needs)
+    (λ c κs. search needs)
+    (λ c κs. search needs)
+    run-requires
+    (λ c. search needs)
+    (λ c. search needs)
+    (λ c. search needs)
+    (λ c. search needs)
+    (λ c. search needs)
+    (λ c. search needs)
+    returns)
