@@ -1,0 +1,2 @@
+-- Names for the theorems of the move.
+pub mod Rename
