@@ -3,6 +3,8 @@ ghost use Prim.Native.Nat.{_+_, _*_, _<_, _≤_, _^_};
 ghost use Rattle.ec20.specs.Code.{instrBy, instrOf, codeOf};
 ghost use Rattle.ec20.specs.Control.{controlOf};
 ghost use Rattle.ec20.specs.File.{recordsFrom};
+ghost use Rattle.ec20.specs.declared.Rec.{Rec};
+ghost use Rattle.instructions.specs.Cells.{cells};
 ghost use Rattle.records.specs.Ranges.{Held};
 ghost use lib.ListN.{length};
 ghost use mathlib.Core.Path.{_≡_};
@@ -44,42 +46,37 @@ fn instr_by(form: u8, r: Rec) -> Instr
 }
 
 // The instruction of a record.
-pub fn instr_of(r: Rec) -> Instr
+pub fn instr_of(rows: &[[u8; 11]; 56], r: Rec) -> Instr
+    requires { ⌜ now rows ≡ cells ⌝ }
     ensures { λ i. ⌜ i ≡ instrOf r ⌝ }
 {
-    let row = instructions::row_of(r.number);
-    instr_by(row.form, r)
+    let form = instructions::form_in(rows, r.number);
+    instr_by(form, r)
 }
 
 // The instruction of record k; past the last record there is END.
-pub fn instr_at(f: &[u8], first: usize, count: usize, k: usize) -> Instr
+pub fn instr_at(rows: &[[u8; 11]; 56], f: &[u8], first: usize, count: usize, k: usize) -> Instr
+    requires { ⌜ now rows ≡ cells ⌝ }
     requires { ⌜ Held (length (now f)) first count ⌝ }
     ensures { λ i. ⌜ i ≡ codeOf (recordsFrom (now (f .entry)) first count) k ⌝ }
 {
     if k < count {
-        return instr_of(records::record_from(f, first + 20 * k));
+        return instr_of(rows, records::record_from(f, first + 20 * k));
     }
     Instr::End
 }
 
-// What loops and jumps see of an instruction.
-pub fn control_of(i: Instr) -> Control
-    ensures { λ c. ⌜ c ≡ controlOf i ⌝ }
+// What loops and jumps see of a record: its number and its first value say it, and no row is looked up.
+fn control_by(number: usize, value: usize) -> Control
+    ensures { λ c. ⌜ ((r : Rec) → r .number ≡ number → r .first .value ≡ value → c ≡ controlOf (instrOf r)) ⌝ }
 {
-    match i {
-        Instr::For(n) => Control::Opens(n),
-        Instr::Next => Control::Closes,
-        Instr::Jump(l) => Control::Jumps(l),
-        Instr::Label(l) => Control::Marks(l),
-        Instr::End => Control::Ends,
-        Instr::Nop => Control::Plain,
-        Instr::Contact(_, _) => Control::Plain,
-        Instr::Compare(_, _, _) => Control::Plain,
-        Instr::Join(_) => Control::Plain,
-        Instr::Branch(_) => Control::Plain,
-        Instr::Coil(_, _) => Control::Plain,
-        Instr::Timer(_, _) => Control::Plain,
-        Instr::Word(_, _, _, _) => Control::Plain,
+    match number {
+        19 => Control::Opens(value),
+        20 => Control::Closes,
+        21 => Control::Jumps(value),
+        22 => Control::Marks(value),
+        23 => Control::Ends,
+        _ => Control::Plain,
     }
 }
 
@@ -88,5 +85,9 @@ pub fn control_at(f: &[u8], first: usize, count: usize, k: usize) -> Control
     requires { ⌜ Held (length (now f)) first count ⌝ }
     ensures { λ c. ⌜ c ≡ controlOf (codeOf (recordsFrom (now (f .entry)) first count) k) ⌝ }
 {
-    control_of(instr_at(f, first, count, k))
+    if k < count {
+        let i = first + 20 * k;
+        return control_by(records::wide(f[i]), records::u32_at(f, i + 4));
+    }
+    Control::Ends
 }

@@ -4,6 +4,7 @@ ghost use Rattle.ec20.specs.Devices.{ec20, limitOf, meetsWork};
 ghost use Rattle.ec20.specs.File.{recordsFrom, recordFrom};
 ghost use Rattle.ec20.specs.Numbers.{half, between, signed};
 ghost use Rattle.ec20.specs.Operands.{inRange, oneOf, constantIn, groupIn, wordsIn, isUnused, isBitRead, isBitWritten, isSource, isTarget, allowedBit, allowedWord, allowedOther, allowed, inWork, operandsOk, targetInWork, faultOf, faultIn, firstBad};
+ghost use Rattle.instructions.specs.Cells.{cells};
 ghost use Rattle.records.specs.Ranges.{Small, SmallRec, Held};
 ghost use lib.IntN.{pos, negℤ};
 ghost use lib.ListN.{length};
@@ -14,13 +15,22 @@ use ec20::Place;
 use ec20::Rec;
 use ec20::Row;
 
-// How many numbers each kind has: none, constant, X, Y, M, SM, T, D, label.
-const LIMITS: [usize; 9] = [0, 0, 256, 256, 2000, 256, 256, 8000, 128];
-
+// How many numbers each kind has: none, constant, X, Y, M, SM, T, D, label. (A constant array would be made anew at each look-up.)
 fn limit(kind: usize) -> usize
     ensures { λ r. ⌜ (r ≡ limitOf ec20 kind) ⌝ }
 {
-    if kind < 9 { LIMITS[kind] } else { 0 }
+    match kind {
+        0 => 0,
+        1 => 0,
+        2 => 256,
+        3 => 256,
+        4 => 2000,
+        5 => 256,
+        6 => 256,
+        7 => 8000,
+        8 => 128,
+        _ => 0,
+    }
 }
 
 // n devices from the operand's number on lie in the device's range.
@@ -225,11 +235,29 @@ fn fault_of(w: Row, r: Rec) -> usize
 }
 
 // The number that refuses the record.
-pub fn fault_in(r: Rec) -> usize
+pub fn fault_in(rows: &[[u8; 11]; 56], r: Rec) -> usize
+    requires { ⌜ now rows ≡ cells ⌝ }
     requires { ⌜ SmallRec r ⌝ }
     ensures { λ n. ⌜ n ≡ faultIn ec20 r ⌝ }
 {
-    fault_of(instructions::row_of(r.number), r)
+    fault_of(instructions::row_in(rows, r.number), r)
+}
+
+// The first of the records that breaks 2, 3 or 4, by the table.
+fn first_by(rows: &[[u8; 11]; 56], f: &[u8], first: usize, count: usize) -> Judged
+    requires { ⌜ now rows ≡ cells ⌝ }
+    requires { ⌜ Held (length (now f)) first count ⌝ }
+    ensures { λ r. ⌜ r ≡ firstBad ec20 (recordsFrom (now (f .entry)) first count) ⌝ }
+{
+    let mut k = 0;
+    while k < count {
+        let n = fault_in(rows, records::record_from(f, first + 20 * k));
+        if n != 0 {
+            return Judged::Fault(n, k);
+        }
+        k += 1;
+    }
+    Judged::Fine
 }
 
 // The first of the records that breaks 2, 3 or 4.
@@ -237,13 +265,6 @@ pub fn first_bad(f: &[u8], first: usize, count: usize) -> Judged
     requires { ⌜ Held (length (now f)) first count ⌝ }
     ensures { λ r. ⌜ r ≡ firstBad ec20 (recordsFrom (now (f .entry)) first count) ⌝ }
 {
-    let mut k = 0;
-    while k < count {
-        let n = fault_in(records::record_from(f, first + 20 * k));
-        if n != 0 {
-            return Judged::Fault(n, k);
-        }
-        k += 1;
-    }
-    Judged::Fine
+    let rows = instructions::table();
+    first_by(&rows, f, first, count)
 }

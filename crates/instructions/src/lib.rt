@@ -1,6 +1,7 @@
 // The instruction table: one row for each instruction number, with the role, the width and the extent of each operand. Checker, scan, map
 // and mover take these from here and from nowhere else.
 ghost use Rattle.ec20.specs.Table.{rowOf};
+ghost use Rattle.instructions.specs.Cells.{cells};
 ghost use mathlib.Core.Path.{_≡_};
 use ec20::Place;
 use ec20::Row;
@@ -68,12 +69,20 @@ const TABLE: [[u8; 11]; 56] = [
     [1, 14, 5, 32, 2, 0, 0, 0, 0, 0, 0], // 55 DDEC
 ];
 
+// The table, made once by whoever looks rows up and then lent: the compiler would else make it anew at each look-up.
+pub fn table() -> [[u8; 11]; 56]
+    ensures { λ r. ⌜ r ≡ cells ⌝ }
+{
+    TABLE
+}
+
 // The row of an instruction number; past the table, unknown.
-pub fn row_of(n: usize) -> Row
+pub fn row_in(rows: &[[u8; 11]; 56], n: usize) -> Row
+    requires { ⌜ now rows ≡ cells ⌝ }
     ensures { λ r. ⌜ r ≡ rowOf n ⌝ }
 {
     if n < 56 {
-        let t = TABLE[n];
+        let t = rows[n];
         let first = Place {
             role: t[2],
             width: t[3],
@@ -109,4 +118,26 @@ pub fn row_of(n: usize) -> Row
         second: no,
         third: no,
     }
+}
+
+// Of a row the form alone, which every step of a scan asks for.
+pub fn form_in(rows: &[[u8; 11]; 56], n: usize) -> u8
+    requires { ⌜ now rows ≡ cells ⌝ }
+    ensures { λ r. ⌜ r ≡ rowOf n .form ⌝ }
+{
+    if n < 56 {
+        return rows[n][1];
+    }
+    0
+}
+
+// The first operand's width alone, which every word instruction asks for.
+pub fn width_in(rows: &[[u8; 11]; 56], n: usize) -> u8
+    requires { ⌜ now rows ≡ cells ⌝ }
+    ensures { λ r. ⌜ r ≡ rowOf n .first .width ⌝ }
+{
+    if n < 56 {
+        return rows[n][3];
+    }
+    0
 }

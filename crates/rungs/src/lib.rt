@@ -4,6 +4,7 @@ ghost use Rattle.ec20.specs.Code.{programIn};
 ghost use Rattle.ec20.specs.File.{recordsFrom};
 ghost use Rattle.ec20.specs.Basics.{pick};
 ghost use Rattle.ec20.specs.Rung.{isLoad, starts, bothEmpty, loadOk, actionOk, branchOk, keeps, afterLoad, branchesAfter, afterAction, noFlow, rung, afterRecord, firstBroken};
+ghost use Rattle.instructions.specs.Cells.{cells};
 ghost use Rattle.records.specs.Ranges.{Held};
 ghost use Rattle.rungs.specs.Within.{Within};
 ghost use lib.ListN.{length};
@@ -241,8 +242,9 @@ pub fn after_record(i: Instr, s: Rung) -> Rung
     }
 }
 
-// The first record that breaks the rule. A scan, and the check, start with flow absent and both stacks empty.
-pub fn first_broken(f: &[u8], first: usize, count: usize) -> Judged
+// The first record that breaks the rule, each decoded by the table. A scan, and the check, start with flow absent and both stacks empty.
+fn first_by(rows: &[[u8; 11]; 56], f: &[u8], first: usize, count: usize) -> Judged
+    requires { ⌜ now rows ≡ cells ⌝ }
     requires { ⌜ Held (length (now f)) first count ⌝ }
     ensures { λ r. ⌜ r ≡ firstBroken (programIn (recordsFrom (now (f .entry)) first count)) ⌝ }
 {
@@ -254,7 +256,7 @@ pub fn first_broken(f: &[u8], first: usize, count: usize) -> Judged
     };
     let mut k = 0;
     while k < count {
-        let i = decode::instr_at(f, first, count, k);
+        let i = decode::instr_at(rows, f, first, count, k);
         if !keeps(i, s) {
             return Judged::Fault(5, k);
         }
@@ -262,4 +264,13 @@ pub fn first_broken(f: &[u8], first: usize, count: usize) -> Judged
         k += 1;
     }
     Judged::Fine
+}
+
+// The first record that breaks the rule.
+pub fn first_broken(f: &[u8], first: usize, count: usize) -> Judged
+    requires { ⌜ Held (length (now f)) first count ⌝ }
+    ensures { λ r. ⌜ r ≡ firstBroken (programIn (recordsFrom (now (f .entry)) first count)) ⌝ }
+{
+    let rows = instructions::table();
+    first_by(&rows, f, first, count)
 }

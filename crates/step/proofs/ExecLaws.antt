@@ -107,7 +107,7 @@ module _ {f : List ℕ} {first count : ℕ} {i : Instr} {s : Machine} {n : ℕ} 
   pub for-here : s .pc < count
   for-here = for-inside (recordsFrom f first count) (s .pc) n (sym (due .is) ∙ g)
 
-  pub for-next : {nexts places : List ℕ} {e : ℕ} → Running f first count nexts places e
+  pub for-next : {rows : List (List ℕ)} {nexts places : List ℕ} {e : ℕ} → Running rows f first count nexts places e
       → getD nexts (s .pc) 0 ≡ orPast count (nextOf (controlsOf (programIn (recordsFrom f first count))) count (s .pc))
   unfolding controlOf
   for-next r = r .prepared .next (s .pc) n for-here (ap controlOf (sym (due .is) ∙ g))

@@ -8,12 +8,14 @@ use Rattle.ec20.specs.Control.{controlsOf}
 use Rattle.ec20.specs.File.{recordsFrom}
 use Rattle.ec20.specs.declared.Instr.{Instr}
 use Rattle.ec20.specs.declared.Machine.{Machine}
+use Rattle.instructions.specs.Cells.{cells}
 use Rattle.jumps.specs.Prepared.{Prepared}
 use Rattle.records.specs.Ranges.{Held}
 use Rattle.step.specs.Small.{SmallInstr}
 
--- of a run: `count` records from the byte `first` on, the places of NEXT and labels, the elapsed units
-pub record Running (f : List ℕ) (first count : ℕ) (nexts places : List ℕ) (e : ℕ) : Type 0 where
+-- of a run: the instruction table, `count` records from the byte `first` on, the places of NEXT and labels, the elapsed units
+pub record Running (rows : List (List ℕ)) (f : List ℕ) (first count : ℕ) (nexts places : List ℕ) (e : ℕ) : Type 0 where
+  pub table : rows ≡ cells
   pub held : Held (length f) first count
   pub prepared : Prepared (controlsOf (programIn (recordsFrom f first count))) count nexts places
   pub near : (k : ℕ) → getD nexts k 0 ≤ 2000

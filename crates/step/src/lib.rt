@@ -5,6 +5,7 @@ ghost use Rattle.ec20.specs.Flow.{isOn, acted, contactOf, compareOf, coilOf};
 ghost use Rattle.ec20.specs.Memory.{memory, loadBit, loadOf};
 ghost use Rattle.ec20.specs.Numbers.{half};
 ghost use Rattle.ec20.specs.Code.{programIn};
+ghost use Rattle.instructions.specs.Cells.{cells};
 ghost use Rattle.ec20.specs.File.{recordsFrom};
 ghost use Rattle.ec20.specs.Step.{World, world, widthOf, settle, wordOf, execOf, stepOf};
 ghost use Rattle.step.specs.Ready.{Running, Due};
@@ -18,16 +19,16 @@ use ec20::Operand;
 use ec20::Outcome;
 
 // The width of a word instruction, by the table.
-fn width(n: usize) -> usize
+fn width(rows: &[[u8; 11]; 56], n: usize) -> usize
+    requires { ⌜ now rows ≡ cells ⌝ }
     ensures { λ r. ⌜ r ≡ widthOf n ⌝ }
 {
-    let row = instructions::row_of(n);
-    let first = row.first;
-    records::wide(first.width)
+    records::wide(instructions::width_in(rows, n))
 }
 
 // An outcome stored, with its flags; one that is an error changes nothing.
 fn settle_outcome(
+    rows: &[[u8; 11]; 56],
     n: usize,
     t: Operand,
     r: Outcome,
@@ -37,19 +38,20 @@ fn settle_outcome(
     d: &mut [i16],
     s: Machine,
 ) -> Machine
-    requires { ⌜ (s .pc < 2 ^ 63) × (t .value < 2 ^ 32) × Bounded (half (widthOf n)) r ⌝ }
+    requires { ⌜ (s .pc < 2 ^ 63) × (t .value < 2 ^ 32) × Bounded (half (widthOf n)) r × (now rows ≡ cells) ⌝ }
     ensures { λ q. ⌜ ((x c left back : List ℕ) (tv : List ℤ) → world (memory x (now (y .exit)) (now (m .exit)) (now (sm .exit)) c (now (d .exit)) tv) left back q ≡ settle n t r (world (memory x (now (y .entry)) (now (m .entry)) (now (sm .entry)) c (now (d .entry)) tv) left back s)) ⌝ }
 {
     if r.error != 0 {
         return flow::fail(s, r.error);
     }
-    let w = width(n);
+    let w = width(rows, n);
     operands::store_all(w, t, r, y, m, sm, d);
     flow::act(s)
 }
 
 // A word instruction: with flow the sources are read, the outcome is worked out and settled; without it nothing is done.
 fn word(
+    rows: &[[u8; 11]; 56],
     n: usize,
     a: Operand,
     b: Operand,
@@ -62,17 +64,17 @@ fn word(
     tv: &[i16],
     s: Machine,
 ) -> Machine
-    requires { ⌜ (s .pc < 2 ^ 63) × (a .value < 2 ^ 32) × (b .value < 2 ^ 32) × (t .value < 2 ^ 32) ⌝ }
+    requires { ⌜ (s .pc < 2 ^ 63) × (a .value < 2 ^ 32) × (b .value < 2 ^ 32) × (t .value < 2 ^ 32) × (now rows ≡ cells) ⌝ }
     ensures { λ q. ⌜ ((c left back : List ℕ) → world (memory (now (x .entry)) (now (y .exit)) (now (m .exit)) (now (sm .exit)) c (now (d .exit)) (now (tv .entry))) left back q ≡ wordOf n a b t (world (memory (now (x .entry)) (now (y .entry)) (now (m .entry)) (now (sm .entry)) c (now (d .entry)) (now (tv .entry))) left back s)) ⌝ }
 {
     if !flow::is_on(s) {
         return flow::act(s);
     }
-    let w = width(n);
+    let w = width(rows, n);
     let u = operands::load(w, a, x, y, m, d, tv);
     let v = operands::load(w, b, x, y, m, d, tv);
     let r = arith::compute(n, bits::half_of(w), u, v);
-    settle_outcome(n, t, r, y, m, sm, d, s)
+    settle_outcome(rows, n, t, r, y, m, sm, d, s)
 }
 
 // LD, LDI, AND, ANI, OR, ORI.
@@ -140,6 +142,7 @@ fn timer(
 // The instruction that is due, on memory and state.
 pub fn exec(
     i: Instr,
+    rows: &[[u8; 11]; 56],
     f: &[u8],
     first: usize,
     count: usize,
@@ -157,7 +160,7 @@ pub fn exec(
     back: &mut [usize; 8],
     s: Machine,
 ) -> Machine
-    requires { ⌜ Running (now f) first count (now nexts) (now places) e ⌝ }
+    requires { ⌜ Running (now rows) (now f) first count (now nexts) (now places) e ⌝ }
     requires { ⌜ Due (now f) first count i s ⌝ }
     ensures { λ q. ⌜ world (memory (now (x .entry)) (now (y .exit)) (now (m .exit)) (now (sm .exit)) (now (t .exit)) (now (d .exit)) (now (tv .exit))) (now (left .exit)) (now (back .exit)) q ≡ execOf (programIn (recordsFrom (now (f .entry)) first count)) e i (world (memory (now (x .entry)) (now (y .entry)) (now (m .entry)) (now (sm .entry)) (now (t .entry)) (now (d .entry)) (now (tv .entry))) (now (left .entry)) (now (back .entry)) s) ⌝ }
 {
@@ -174,12 +177,13 @@ pub fn exec(
         Instr::Jump(l) => jumps::jump(f, first, count, places, l, s),
         Instr::Label(_) => flow::go_to(s, s.pc + 1, s.depth),
         Instr::End => flow::stop(s),
-        Instr::Word(n, a, b, u) => word(n, a, b, u, x, y, m, sm, d, tv, s),
+        Instr::Word(n, a, b, u) => word(rows, n, a, b, u, x, y, m, sm, d, tv, s),
     }
 }
 
 // One step: the record due is decoded and executed.
 pub fn step(
+    rows: &[[u8; 11]; 56],
     f: &[u8],
     first: usize,
     count: usize,
@@ -197,13 +201,14 @@ pub fn step(
     back: &mut [usize; 8],
     s: Machine,
 ) -> Machine
-    requires { ⌜ Running (now f) first count (now nexts) (now places) e ⌝ }
+    requires { ⌜ Running (now rows) (now f) first count (now nexts) (now places) e ⌝ }
     requires { ⌜ (s .depth ≤ 8) × (s .pc < 2 ^ 63) ⌝ }
     ensures { λ q. ⌜ world (memory (now (x .entry)) (now (y .exit)) (now (m .exit)) (now (sm .exit)) (now (t .exit)) (now (d .exit)) (now (tv .exit))) (now (left .exit)) (now (back .exit)) q ≡ stepOf (programIn (recordsFrom (now (f .entry)) first count)) e (world (memory (now (x .entry)) (now (y .entry)) (now (m .entry)) (now (sm .entry)) (now (t .entry)) (now (d .entry)) (now (tv .entry))) (now (left .entry)) (now (back .entry)) s) ⌝ }
 {
-    let i = decode::instr_at(f, first, count, s.pc);
+    let i = decode::instr_at(rows, f, first, count, s.pc);
     exec(
         i,
+        rows,
         f,
         first,
         count,

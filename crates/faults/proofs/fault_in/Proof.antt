@@ -6,7 +6,7 @@ use Rattle.faults.proofs.fault_in.Tie as tie
 
 returns : tie.Need-returns
 unfolding faultIn
-returns c = rw (c .fault-of .ensures, c .before .row-of .ensures) refl
+returns c = rw (c .fault-of .ensures, c .before .row-in .ensures) refl
 
 pub fault-in-spec : {M : Type 1} → statement M
 fault-in-spec = tie.close (tie.spec (λ c κs. search needs) (λ c κs. search needs) returns)

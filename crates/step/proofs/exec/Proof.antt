@@ -12,7 +12,7 @@ open-loop-requires : tie.Need-open-loop-requires
 open-loop-requires c κs = (c .before .before .before .before .before .before .before .before .before .before .before .pre .1 .depth, (omega (arith, for-here (c .before .before .before .before .before .before .before .before .before .before .before .pre .1) (c .before .before .before .i7 .given .1), c .before .before .before .before .before .before .before .before .before .before .before .pre .0 .held .most), omega (arith, c .before .before .before .before .before .before .before .before .before .before .before .pre .0 .near (c .before .before .before .before .before .before .before .before .before .before .before .args .s .pc))))
 
 word-requires : tie.Need-word-requires
-word-requires c κs = (c .before .before .before .before .before .before .before .before .before .before .before .before .before .before .pre .1 .pc, word-small (c .before .before .before .before .before .before .i9 .given .1) (c .before .before .before .before .before .before .before .before .before .before .before .before .before .before .pre .1 .small) .0, word-small (c .before .before .before .before .before .before .i9 .given .1) (c .before .before .before .before .before .before .before .before .before .before .before .before .before .before .pre .1 .small) .1, word-small (c .before .before .before .before .before .before .i9 .given .1) (c .before .before .before .before .before .before .before .before .before .before .before .before .before .before .pre .1 .small) .2)
+word-requires c κs = (c .before .before .before .before .before .before .before .before .before .before .before .before .before .before .pre .1 .pc, word-small (c .before .before .before .before .before .before .i9 .given .1) (c .before .before .before .before .before .before .before .before .before .before .before .before .before .before .pre .1 .small) .0, word-small (c .before .before .before .before .before .before .i9 .given .1) (c .before .before .before .before .before .before .before .before .before .before .before .before .before .before .pre .1 .small) .1, word-small (c .before .before .before .before .before .before .i9 .given .1) (c .before .before .before .before .before .before .before .before .before .before .before .before .before .before .pre .1 .small) .2, c .before .before .before .before .before .before .before .before .before .before .before .before .before .before .pre .0 .table)
 
 returns : tie.Need-returns
 returns c = nop-arm _ _ _ _ _ _ (c .before .enum-told .given .1) (c .go-on .ensures)

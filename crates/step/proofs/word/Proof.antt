@@ -17,7 +17,7 @@ compute-requires : tie.Need-compute-requires
 compute-requires c κs = (half-bound (c .before .before .before .before .before .before .before .before .before .width .result) (c .half-of .ensures), rw (c .half-of .ensures) (search needs), rw (c .half-of .ensures) (search needs))
 
 settle-outcome-requires : tie.Need-settle-outcome-requires
-settle-outcome-requires c κs = (c .before .before .before .before .before .before .before .before .before .before .before .before .before .before .before .before .before .before .before .before .before .pre .0, c .before .before .before .before .before .before .before .before .before .before .before .before .before .before .before .before .before .before .before .before .before .pre .3, subst (λ (h : ℕ). Bounded h (c .before .before .before .before .compute .result)) (c .before .before .before .before .before .half-of .ensures ∙ ap half (c .before .before .before .before .before .before .before .before .before .before .before .before .before .before .width .ensures)) (c .before .before .before .before .compute .ensures .1))
+settle-outcome-requires c κs = (c .before .before .before .before .before .before .before .before .before .before .before .before .before .before .before .before .before .before .before .before .before .pre .0, c .before .before .before .before .before .before .before .before .before .before .before .before .before .before .before .before .before .before .before .before .before .pre .3, subst (λ (h : ℕ). Bounded h (c .before .before .before .before .compute .result)) (c .before .before .before .before .before .half-of .ensures ∙ ap half (c .before .before .before .before .before .before .before .before .before .before .before .before .before .before .width .ensures)) (c .before .before .before .before .compute .ensures .1), c .before .before .before .before .before .before .before .before .before .before .before .before .before .before .before .before .before .before .before .before .before .pre .4)
 
 returns-2 : tie.Need-returns-2
 returns-2 c = λ b l k. word-on _ _ _ _ _ _ _ _ (sym (c .before .before .before .before .before .before .before .before .before .before .before .before .before .before .before .before .before .before .before .before .before .before .before .before .is-on .ensures) ∙ not-false _ (c .before .before .before .before .before .before .before .before .before .before .before .before .before .before .before .before .before .before .before .before .before .before .before .if1 .left)) (c .before .before .before .before .before .before .before .before .before .before .before .before .before .before .before .before .before .before .before .before .before .before .width .ensures) (c .before .before .before .before .before .before .before .before .before .before .before .before .before .half-of .ensures) (said w64 (c .before .before .before .before .before .before .before .before .before .before .before .before .before .before .before .before .before .before .load .ok) (c .before .before .before .before .before .before .before .before .before .before .before .before .before .before .before .before .before .before .load .ensures .0 _ b)) (said w64 (c .before .before .before .before .before .before .before .before .before .before .before .before .before .before .load2 .ok) (c .before .before .before .before .before .before .before .before .before .before .before .before .before .before .load2 .ensures .0 _ b)) (c .before .before .before .before .before .before .before .before .before .before .before .before .compute .ensures .0) (c .before .before .before .before .before .before .before .settle-outcome .ensures _ b l k _)

@@ -9,15 +9,15 @@ use Rattle.ec20.specs.File.{recordsFrom}
 use Rattle.ec20.specs.Rung.{brokenFrom, firstBroken}
 use Rattle.rungs.proofs.Laws.{turn, broke, done, turned, within-after}
 use Rattle.rungs.specs.Within.{Within}
-use Rattle.rungs.proofs.first_broken.Statement.{statement}
-use Rattle.rungs.proofs.first_broken.Tie as tie
+use Rattle.rungs.proofs.first_by.Statement.{statement}
+use Rattle.rungs.proofs.first_by.Tie as tie
 
 abbrev Inv-loop : tie.InvT-loop
-Inv-loop f first count s₀ k₀ s k =
+Inv-loop rows f first count s₀ k₀ s k =
     (k ≤ count) × Within s × (firstBroken (programIn (recordsFrom f first count)) ≡ brokenFrom (codeOf (recordsFrom f first count)) s k (count - k))
 
 abbrev μ-loop : tie.MeasureT-loop
-μ-loop f first count s₀ k₀ s k = count - k
+μ-loop rows f first count s₀ k₀ s k = count - k
 
 loop-holds : tie.Need-loop-holds Inv-loop μ-loop
 loop-holds c = (search needs, search needs, rw sub-zero)
@@ -43,8 +43,8 @@ returns-2 c =
     let l = c .before .loop in
     done _ _ (l .k) _ (search needs) ∙ sym (l .inv .2)
 
-pub first-broken-spec : {M : Type 1} → statement M
-first-broken-spec =
+pub first-by-spec : {M : Type 1} → statement M
+first-by-spec =
     tie.close
     (tie.spec
     Inv-loop

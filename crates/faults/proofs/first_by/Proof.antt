@@ -9,21 +9,21 @@ use Rattle.ec20.specs.Devices.{ec20}
 use Rattle.ec20.specs.File.{recordsFrom, recordFrom}
 use Rattle.ec20.specs.Operands.{faultIn, firstBad}
 use Rattle.faults.proofs.First.{turn, found, done}
-use Rattle.faults.proofs.first_bad.Statement.{statement}
-use Rattle.faults.proofs.first_bad.Tie as tie
+use Rattle.faults.proofs.first_by.Statement.{statement}
+use Rattle.faults.proofs.first_by.Tie as tie
 
 abbrev Inv-loop : tie.InvT-loop
-Inv-loop f first count k₀ k =
+Inv-loop rows f first count k₀ k =
     (k ≤ count) × (firstBad ec20 (recordsFrom f first count) ≡ firstFault (λ (j : ℕ). faultIn ec20 (recordFrom f (first + 20 * j))) k (count - k))
 
 abbrev μ-loop : tie.MeasureT-loop
-μ-loop f first count k₀ k = count - k
+μ-loop rows f first count k₀ k = count - k
 
 loop-holds : tie.Need-loop-holds Inv-loop μ-loop
 loop-holds c = (search needs, rw sub-zero)
 
 record-from-requires : tie.Need-record-from-requires Inv-loop μ-loop
-record-from-requires c κs = omega (arith, c .before .before .before .pre .whole)
+record-from-requires c κs = omega (arith, c .before .before .before .pre .1 .whole)
 
 returns : tie.Need-returns Inv-loop μ-loop
 returns c =
@@ -43,17 +43,17 @@ returns-2 c =
     let l = c .before .loop in
     done _ (l .k) _ (search needs) ∙ sym (l .inv .1)
 
-pub first-bad-spec : {M : Type 1} → statement M
-first-bad-spec =
+pub first-by-spec : {M : Type 1} → statement M
+first-by-spec =
     tie.close
     (tie.spec
     Inv-loop
     μ-loop
     loop-holds
-    (λ c. omega (arith, c .before .before .before .pre .most))
-    (λ c. omega (arith, c .before .before .before .pre .whole, c .before .before .before .pre .most))
+    (λ c. omega (arith, c .before .before .before .pre .1 .most))
+    (λ c. omega (arith, c .before .before .before .pre .1 .whole, c .before .before .before .pre .1 .most))
     record-from-requires
-    (λ c κs. c .record-from .ensures .1)
+    (λ c κs. (c .before .before .before .before .pre .0, c .record-from .ensures .1))
     returns
     (λ c. search needs)
     (λ c. search needs)

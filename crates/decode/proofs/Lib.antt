@@ -1,0 +1,2 @@
+-- Numbers that loops and jumps see
+pub mod ByNumber

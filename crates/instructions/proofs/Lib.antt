@@ -1,0 +1,2 @@
+-- Rows by their cells
+pub mod Rows

@@ -1,0 +1,2 @@
+-- The table as its cells.
+pub mod Cells
