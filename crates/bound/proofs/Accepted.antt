@@ -27,11 +27,11 @@ use Rattle.bound.specs.Right.{Right}
 use Rattle.bound.proofs.Rule.{Faultless, Rule, Whole, rule-of, once-of, whole}
 
 -- nothing is refused of two judgements: of neither
-then-fine : (a b : Judged) → then a b ≡ Fine → (a ≡ Fine) × (b ≡ Fine)
+pub then-fine : (a b : Judged) → then a b ≡ Fine → (a ≡ Fine) × (b ≡ Fine)
 then-fine Fine b e = (refl, e)
 then-fine (Fault n k) b e = let z : _≡_ {A = ℕ} 0 1 = cc in absurd (omega arith)
 
-none-refused : (m : ℕ) (x : Found) → refusedAt m x ≡ Fine → x ≡ Nowhere
+pub none-refused : (m : ℕ) (x : Found) → refusedAt m x ≡ Fine → x ≡ Nowhere
 none-refused m (At k) e = let z : _≡_ {A = ℕ} 0 1 = cc in absurd (omega arith)
 none-refused m Nowhere e = refl
 

@@ -1,2 +1,3 @@
 -- Names for the theorems of the move.
 pub mod Rename
+pub mod Series

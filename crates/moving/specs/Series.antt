@@ -1,0 +1,26 @@
+-- A series of scans: between two scans only X changes.
+use Prim.Native.Nat.{ℕ}
+use mathlib.Core.List.{List, [], _∷_}
+use Rattle.ec20.specs.Memory.{Memory, memory}
+use Rattle.ec20.specs.Scan.{Scan, scanOf}
+
+-- what a scan of the series is given from outside: X, elapsed units, budget
+pub record Input : Type 0 where
+  pub x : List ℕ
+  pub elapsed : ℕ
+  pub budget : ℕ
+
+-- the memory with another X
+abbrev pub withX : Memory → List ℕ → Memory
+withX c l = memory l (c .y) (c .m) (c .sm) (c .t) (c .d) (c .tv)
+
+-- one scan of the file: on the memory with the input's X
+abbrev pub scanWith : List ℕ → Memory → Input → Scan
+scanWith f c i = scanOf f (i .elapsed) (i .budget) (withX c (i .x))
+
+-- The scans of the file, in order, from the memory c on: each on the memory that the one before it left. A refused scan leaves it as it was.
+unfoldable pub series : List ℕ → Memory → List Input → List Scan
+series f c [] = []
+series f c (i ∷ rest) =
+    let s = scanWith f c i in
+    s ∷ series f (s .mem) rest
