@@ -1,0 +1,108 @@
+-- A word in use and an operand that meets words: some record holds one of the words exactly if some operand's extent meets them. Assumes nothing.
+use Prim.Native.Nat.{ℕ, _+_, _≤_, _<_}
+use mathlib.Core.Bool.{Bool, true, false, _&&_, _||_}
+use mathlib.Core.Path.{_≡_, ap₂}
+use native.Mathlib.Decide.{decLt}
+use native.Mathlib.Omega.{arith}
+use lib.Dec.{leb, ltb}
+use borrow.Author.Tests.{leb-true, ltb-true, le-leb, lt-ltb}
+use Rattle.ec20.proofs.Tests.{both}
+use Rattle.ec20.specs.Devices.{kindD, within, meets}
+use Rattle.ec20.specs.File.{Records}
+use Rattle.ec20.specs.Move.{block, touches}
+use Rattle.ec20.specs.Operands.{kindIs}
+use Rattle.ec20.specs.Table.{rowOf}
+use Rattle.ec20.specs.UseMap.{holds, someOperand, recordHas, someRecord}
+use Rattle.ec20.specs.declared.Operand.{Operand}
+use Rattle.ec20.specs.declared.Place.{Place}
+use Rattle.ec20.specs.declared.Rec.{Rec}
+use Rattle.ec20.specs.declared.Row.{Row}
+use Rattle.marks.proofs.Some.{some-at, at-some, or-right, three, one-first, one-second}
+use Rattle.places.proofs.Extents.{Real}
+
+-- ---- numbers in a row
+
+pub within-yes : (a n i : ℕ) → a ≤ i → i < a + n → within a n i ≡ true
+unfolding within
+within-yes a n i l u = ap₂ _&&_ (le-leb _ _ l) (lt-ltb _ _ u)
+
+pub is-within : (a n i : ℕ) → within a n i ≡ true → (a ≤ i) × (i < a + n)
+unfolding within
+is-within a n i e = let h = both (leb a i) (ltb i (a + n)) e in (leb-true _ _ (h .0), ltb-true _ _ (h .1))
+
+pub meets-yes : (a n b m : ℕ) → a < b + m → b < a + n → meets a n b m ≡ true
+unfolding meets
+meets-yes a n b m l u = ap₂ _&&_ (lt-ltb _ _ l) (lt-ltb _ _ u)
+
+pub is-meets : (a n b m : ℕ) → meets a n b m ≡ true → (a < b + m) × (b < a + n)
+unfolding meets
+is-meets a n b m e = let h = both (ltb a (b + m)) (ltb b (a + n)) e in (ltb-true _ _ (h .0), ltb-true _ _ (h .1))
+
+-- rows that meet, neither of them empty, have a number in common
+pub common : (a n b m : ℕ) → 0 < n → 0 < m → meets a n b m ≡ true → (i : ℕ) × (a ≤ i) × (i < a + n) × (b ≤ i) × (i < b + m)
+common a n b m x y e =
+    let h = is-meets a n b m e in
+    let l : a < b + m = h .0 in
+    let u : b < a + n = h .1 in
+    elim (decLt a b) [ yes z ↦ (b, omega arith, omega arith, omega arith, omega arith) | no z ↦ (a, omega arith, omega arith, omega arith, omega arith) ]
+
+-- ---- an operand, the operands of a record, and records
+
+module _ (q n : ℕ) where
+  hold-touch : (i : ℕ) → q ≤ i → i < q + n → (p : Place) (o : Operand) → holds i p o ≡ true → touches (block q n) p o ≡ true
+  unfolding holds touches
+  hold-touch i l u p o e =
+      let h = both (kindIs kindD o) (within (o .value) (p .extent) i) e in
+      let w = is-within (o .value) (p .extent) i (h .1) in
+      let x : o .value ≤ i = w .0 in
+      let y : i < o .value + p .extent = w .1 in
+      ap₂ _&&_ (h .0) (meets-yes (o .value) (p .extent) q n (omega arith) (omega arith))
+
+  held : (i : ℕ) → q ≤ i → i < q + n → (w : Row) (r : Rec) → someOperand (holds i) w r ≡ true → someOperand (touches (block q n)) w r ≡ true
+  unfolding someOperand
+  held i l u w r e =
+      let t : Place → Operand → Bool = touches (block q n) in
+      let go = hold-touch i l u in
+      three (holds i (w .first) (r .first)) (holds i (w .second) (r .second)) (holds i (w .third) (r .third)) e
+      (λ g. one-first (t (w .first) (r .first)) (t (w .second) (r .second)) (t (w .third) (r .third)) (go _ _ g))
+      (λ g. one-second (t (w .first) (r .first)) (t (w .second) (r .second)) (t (w .third) (r .third)) (go _ _ g))
+      (λ g. or-right (t (w .first) (r .first) || t (w .second) (r .second)) (t (w .third) (r .third)) (go _ _ g))
+
+  -- if one of the words is in use, an operand's extent meets them
+  pub used-meets : (rs : Records) (i : ℕ) → q ≤ i → i < q + n → someRecord (holds i) rs ≡ true → someRecord (touches (block q n)) rs ≡ true
+  unfolding someRecord
+  used-meets rs i l u e =
+      let k = some-at (λ j. recordHas (holds i) (rs .at j)) 0 (rs .count) e in
+      at-some (λ j. recordHas (touches (block q n)) (rs .at j)) 0 (rs .count) (k .0) (k .1) (k .2) (held i l u _ _ (k .3))
+
+  module _ (some : 0 < n) where
+    -- a word of these that is held
+    abbrev Held : (ℕ → Bool) → Type 0
+    Held test = (i : ℕ) × (q ≤ i) × (i < q + n) × (test i ≡ true)
+
+    touch-hold : (p : Place) (o : Operand) → (kindIs kindD o ≡ true → 0 < p .extent) → touches (block q n) p o ≡ true → Held (λ i. holds i p o)
+    unfolding holds touches
+    touch-hold p o r e =
+        let h = both (kindIs kindD o) (meets (o .value) (p .extent) q n) e in
+        let c = common (o .value) (p .extent) q n (r (h .0)) some (h .1) in
+        (c .0, c .3, c .4, ap₂ _&&_ (h .0) (within-yes (o .value) (p .extent) (c .0) (c .1) (c .2)))
+
+    touched : (w : Row) (r : Rec) → Real w r → someOperand (touches (block q n)) w r ≡ true → Held (λ i. someOperand (holds i) w r)
+    unfolding someOperand
+    touched w r s e =
+        let t : Place → Operand → Bool = touches (block q n) in
+        let h : ℕ → Place → Operand → Bool = holds in
+        three (t (w .first) (r .first)) (t (w .second) (r .second)) (t (w .third) (r .third)) e
+        (λ g. let c = touch-hold (w .first) (r .first) (s .first) g in (c .0, c .1, c .2, one-first (h (c .0) (w .first) (r .first)) (h (c .0) (w .second) (r .second)) (h (c .0) (w .third) (r .third)) (c .3)))
+        (λ g. let c = touch-hold (w .second) (r .second) (s .second) g in (c .0, c .1, c .2, one-second (h (c .0) (w .first) (r .first)) (h (c .0) (w .second) (r .second)) (h (c .0) (w .third) (r .third)) (c .3)))
+        (λ g. let c = touch-hold (w .third) (r .third) (s .third) g in (c .0, c .1, c .2, or-right (h (c .0) (w .first) (r .first) || h (c .0) (w .second) (r .second)) (h (c .0) (w .third) (r .third)) (c .3)))
+
+    -- where each D operand has a word: if an operand's extent meets the words, one of them is in use
+    pub meets-used : (rs : Records) → ((k : ℕ) → k < rs .count → Real (rowOf (rs .at k .number)) (rs .at k)) → someRecord (touches (block q n)) rs ≡ true
+        → Held (λ i. someRecord (holds i) rs)
+    unfolding someRecord
+    meets-used rs s e =
+        let k = some-at (λ j. recordHas (touches (block q n)) (rs .at j)) 0 (rs .count) e in
+        let u : k .0 < 0 + rs .count = k .2 in
+        let c = touched (rowOf (rs .at (k .0) .number)) (rs .at (k .0)) (s (k .0) (omega arith)) (k .3) in
+        (c .0, c .1, c .2, at-some (λ j. recordHas (holds (c .0)) (rs .at j)) 0 (rs .count) (k .0) (k .1) (k .2) (c .3))
