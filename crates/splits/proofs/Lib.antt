@@ -1,0 +1,2 @@
+-- A search for the first record that passes a test.
+mod Search
