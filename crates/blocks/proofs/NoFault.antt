@@ -1,13 +1,12 @@
 -- Where block, pool and place lie once they are not refused. Assumes nothing.
 use Prim.Native.Nat.{ℕ, _+_, _≤_, _<_}
 use mathlib.Core.Bool.{Bool, true, false, not, _&&_}
-use mathlib.Core.Logic.{_⊎_, inl, inr}
-use mathlib.Core.Path.{_≡_, refl, sym}
+use mathlib.Core.Path.{_≡_, refl}
 use native.Mathlib.Omega.{arith}
 use lib.Dec.{ltb, leb}
-use borrow.Author.Tests.{ltb-true, ltb-false, leb-true, not-true}
+use borrow.Author.Tests.{ltb-true, leb-true, not-true}
 use Rattle.ec20.proofs.Tests.{both}
-use Rattle.ec20.specs.Basics.{pick, then}
+use Rattle.ec20.specs.Basics.{pick}
 use Rattle.ec20.specs.Devices.{ec20, meets, meetsWork}
 use Rattle.ec20.specs.Exchange.{placeFault}
 use Rattle.ec20.specs.Move.{Block, Pool, blockFault, poolFault}
@@ -18,16 +17,6 @@ use Rattle.ec20.specs.declared.Judged.the-variants.{Fine, Fault}
 pub passed : (t : Bool) (m k : ℕ) → pick t Fine (Fault m k) ≡ Fine → t ≡ true
 passed true m k e = refl
 passed false m k e = let z : _≡_ {A = ℕ} 0 1 = cc in absurd (omega arith)
-
--- of two judgements neither finds a fault
-pub both-fine : (a b : Judged) → then a b ≡ Fine → (a ≡ Fine) × (b ≡ Fine)
-both-fine Fine b e = (refl, e)
-both-fine (Fault n k) b e = let z : _≡_ {A = ℕ} 0 1 = cc in absurd (omega arith)
-
--- one of two tests fails
-not-both : (a b : Bool) → (a && b) ≡ false → (a ≡ false) ⊎ (b ≡ false)
-not-both true b e = inr e
-not-both false b e = inl refl
 
 -- 10: the block is not empty, and inside D
 pub block-inside : (b : Block) → blockFault ec20 b ≡ Fine → (0 < b .length) × (b .start + b .length ≤ 8000)
@@ -43,17 +32,11 @@ pool-inside l e =
     let h = both (leb (l .start) (l .end)) (leb (l .end) 8000) (passed _ 11 0 e) in
     (leb-true _ _ (h .0), leb-true _ _ (h .1))
 
--- numbers in a row that do not meet: one row ends before the other begins
-pub apart : (a n b m : ℕ) → meets a n b m ≡ false → (b + m ≤ a) ⊎ (a + n ≤ b)
-unfolding meets
-apart a n b m e =
-    elim (not-both (ltb a (b + m)) (ltb b (a + n)) e) [ inl h ↦ inl (ltb-false _ _ h) | inr h ↦ inr (ltb-false _ _ h) ]
-
--- 14, of the exchange: the place is inside D, and apart from the block
+-- 14, of the exchange: the place is inside D, and does not meet the block
 pub place-inside : (b : Block) (q : ℕ) → placeFault ec20 b q ≡ Fine
-    → (q + b .length ≤ 8000) × ((b .start + b .length ≤ q) ⊎ (q + b .length ≤ b .start))
+    → (q + b .length ≤ 8000) × (meets q (b .length) (b .start) (b .length) ≡ false)
 unfolding placeFault
 place-inside b q e =
     let h = both (leb (q + b .length) 8000 && not (meets q (b .length) (b .start) (b .length))) (not (meetsWork ec20 q (b .length))) (passed _ 14 0 e) in
     let g = both (leb (q + b .length) 8000) (not (meets q (b .length) (b .start) (b .length))) (h .0) in
-    (leb-true _ _ (g .0), apart q (b .length) (b .start) (b .length) (not-true _ (g .1)))
+    (leb-true _ _ (g .0), not-true _ (g .1))

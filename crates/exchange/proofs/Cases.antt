@@ -1,14 +1,13 @@
 -- The exchange by its cases: refused, or done. Assumes nothing.
 use Prim.Native.Nat.{ℕ}
-use mathlib.Core.Bool.{Bool, true, false}
 use mathlib.Core.List.{List}
 use mathlib.Core.Path.{_≡_, refl, sym, ap, _∙_}
-use native.Mathlib.Omega.{arith}
 use lib.Dec.{eqb}
 use lib.IntN.{ℤ}
 use lib.ListN.{length}
 use borrow.Author.Tests.{eqb-true}
-use Rattle.blocks.proofs.NoFault.{passed, both-fine, block-inside, place-inside}
+use Rattle.blocks.proofs.NoFault.{passed, block-inside, place-inside}
+use Rattle.bound.proofs.Accepted.{then-fine}
 use Rattle.ec20.specs.Basics.{then}
 use Rattle.ec20.specs.Devices.{ec20}
 use Rattle.ec20.specs.Exchange.{Exchange, exchanged, sizeFault, placeFault, judgeExchange, exchangeFor, exchangeOf}
@@ -17,7 +16,7 @@ use Rattle.ec20.specs.declared.Exchanged.{Exchanged}
 use Rattle.ec20.specs.declared.Exchanged.the-variants.{Done, Refused}
 use Rattle.ec20.specs.declared.Judged.{Judged}
 use Rattle.ec20.specs.declared.Judged.the-variants.{Fine, Fault}
-use Rattle.exchange.specs.Apart.{Apart}
+use Rattle.moved.specs.Placed.{Apart}
 
 -- the answer, and the table
 abbrev pub told : Exchanged → List ℤ → Exchange
@@ -32,14 +31,12 @@ module _ (d : List ℤ) (b : Block) (q : ℕ) {j : Judged} (e : j ≡ judgeExcha
   unfolding exchangeOf exchangeFor
   done f g = rw (sym e ∙ f) (ap (told Done) g)
 
-  -- not refused: block and place are inside the table, and apart
-  pub is-apart : j ≡ Fine → Apart b q (length d)
+  -- not refused: the table has 8,000 words, and block and place are inside D and apart
+  pub is-apart : j ≡ Fine → Apart ec20 b q × (length d ≡ 8000)
   unfolding judgeExchange sizeFault
   is-apart f =
-      let nine = both-fine (sizeFault ec20 d) (then (blockFault ec20 b) (then (blockWork ec20 b) (placeFault ec20 b q))) (sym e ∙ f) in
-      let ten = both-fine (blockFault ec20 b) (then (blockWork ec20 b) (placeFault ec20 b q)) (nine .1) in
-      let twelve = both-fine (blockWork ec20 b) (placeFault ec20 b q) (ten .1) in
-      let n : length d ≡ 8000 = eqb-true _ _ (passed (eqb (length d) 8000) 9 0 (nine .0)) in
-      let h = block-inside b (ten .0) in
+      let nine = then-fine (sizeFault ec20 d) (then (blockFault ec20 b) (then (blockWork ec20 b) (placeFault ec20 b q))) (sym e ∙ f) in
+      let ten = then-fine (blockFault ec20 b) (then (blockWork ec20 b) (placeFault ec20 b q)) (nine .1) in
+      let twelve = then-fine (blockWork ec20 b) (placeFault ec20 b q) (ten .1) in
       let p = place-inside b q (twelve .1) in
-      record { block = omega (arith, h .1); place = omega (arith, p .0); clear = p .1 }
+      (record { block-in = block-inside b (ten .0) .1; place-in = p .0; apart = p .1 }, eqb-true _ _ (passed (eqb (length d) 8000) 9 0 (nine .0)))

@@ -12,11 +12,12 @@ use lib.Seq.{ext-getD, getD-set-same, getD-set-other}
 use Rattle.blocks.proofs.Rows.{within-yes, within-no, within-more}
 use Rattle.ec20.proofs.MovedLaws.{getD-from, length-from}
 use Rattle.ec20.specs.Basics.{pick}
-use Rattle.ec20.specs.Devices.{within}
+use Rattle.ec20.specs.Devices.{ec20, within}
 use Rattle.ec20.specs.Exchange.{swapped, exchanged}
 use Rattle.ec20.specs.Move.{Block, block}
 use Rattle.ec20.specs.Registers.{wordAt}
-use Rattle.exchange.specs.Apart.{Apart}
+use Rattle.moved.proofs.Swapped.{Clear, clear}
+use Rattle.moved.specs.Placed.{Apart}
 
 -- the exchanged table, word by word
 module _ (b : Block) (q : ℕ) (d : List ℤ) where
@@ -56,7 +57,11 @@ exchanged-none s q d =
     (λ i l. sym (exchanged-at (block s 0) q d i l ∙ ap (wordAt d) (from-elsewhere s 0 q i (λ h. omega arith) (λ h. omega arith))))
 
 -- the next word of block and place
-module _ (s n q : ℕ) (d : List ℤ) (w : Apart (block s n) q (length d)) (j : ℕ) (h : j < n) where
+module _ (s n q : ℕ) (d : List ℤ) (w : Apart ec20 (block s n) q) (size : length d ≡ 8000) (j : ℕ) (h : j < n) where
+  -- one ends before the other begins
+  side : Clear q n s n
+  side = clear q n s n (w .apart)
+
   abbrev E : List ℤ
   E = exchanged (block s j) q d
 
@@ -66,13 +71,13 @@ module _ (s n q : ℕ) (d : List ℤ) (w : Apart (block s n) q (length d)) (j : 
   -- it is as it was
   at-block : wordAt E (s + j) ≡ wordAt d (s + j)
   at-block =
-      exchanged-at (block s j) q d (s + j) (omega (arith, w .block))
-      ∙ ap (wordAt d) (from-elsewhere s j q (s + j) (λ _. omega arith) (λ k. elim (w .clear) [ inl l ↦ omega arith | inr l ↦ omega arith ]))
+      exchanged-at (block s j) q d (s + j) (omega (arith, w .block-in))
+      ∙ ap (wordAt d) (from-elsewhere s j q (s + j) (λ _. omega arith) (λ k. elim side [ inl l ↦ omega arith | inr l ↦ omega arith ]))
 
   at-place : wordAt E (q + j) ≡ wordAt d (q + j)
   at-place =
-      exchanged-at (block s j) q d (q + j) (omega (arith, w .place))
-      ∙ ap (wordAt d) (from-elsewhere s j q (q + j) (λ k. elim (w .clear) [ inl l ↦ omega arith | inr l ↦ omega arith ]) (λ _. omega arith))
+      exchanged-at (block s j) q d (q + j) (omega (arith, w .place-in))
+      ∙ ap (wordAt d) (from-elsewhere s j q (q + j) (λ k. elim side [ inl l ↦ omega arith | inr l ↦ omega arith ]) (λ _. omega arith))
 
   length-F : length F ≡ length d
   length-F = simp (length-set, exchanged-length)
@@ -84,17 +89,17 @@ module _ (s n q : ℕ) (d : List ℤ) (w : Apart (block s n) q (length d)) (j : 
       elim (ℕ-discrete i (q + j)) [
         | yes e ↦
             rw e
-            (getD-set-same (set E (s + j) (wordAt E (q + j))) (q + j) (wordAt E (s + j)) (pos 0) (omega (arith, w .place))
+            (getD-set-same (set E (s + j) (wordAt E (q + j))) (q + j) (wordAt E (s + j)) (pos 0) (omega (arith, w .place-in))
             ∙ at-block
             ∙ ap (wordAt d)
-            (sym (from-place s (j + 1) q (q + j) (λ k. elim (w .clear) [ inl z ↦ omega arith | inr z ↦ omega arith ]) (omega arith) (omega arith)
+            (sym (from-place s (j + 1) q (q + j) (λ k. elim side [ inl z ↦ omega arith | inr z ↦ omega arith ]) (omega arith) (omega arith)
             ∙ let z : q + j - q + s ≡ s + j = omega arith in z)))
         | no g ↦
             getD-set-other (set E (s + j) (wordAt E (q + j))) (q + j) i (wordAt E (s + j)) (pos 0) g
             ∙ elim (ℕ-discrete i (s + j)) [
               | yes e ↦
                   rw e
-                  (getD-set-same E (s + j) (wordAt E (q + j)) (pos 0) (omega (arith, w .block))
+                  (getD-set-same E (s + j) (wordAt E (q + j)) (pos 0) (omega (arith, w .block-in))
                   ∙ at-place
                   ∙ ap (wordAt d)
                   (sym (from-block s (j + 1) q (s + j) (omega arith) (omega arith) ∙ let z : s + j - s + q ≡ q + j = omega arith in z)))

@@ -4,7 +4,7 @@ ghost use Rattle.ec20.specs.Devices.{ec20};
 ghost use Rattle.ec20.specs.Exchange.{exchanged, sizeFault, judgeExchange, exchangeOf};
 ghost use Rattle.ec20.specs.Move.{block};
 ghost use Rattle.ec20.specs.Registers.{wordAt};
-ghost use Rattle.exchange.specs.Apart.{Apart};
+ghost use Rattle.moved.specs.Placed.{Apart};
 ghost use lib.ListN.{length, set};
 ghost use mathlib.Core.Path.{_≡_};
 use ec20::Exchanged;
@@ -23,7 +23,7 @@ fn swap_words(d: &mut [i16], a: usize, b: usize)
 
 // The n words of block and place change places, one after the other.
 fn swap_blocks(d: &mut [i16], start: usize, n: usize, place: usize)
-    requires { ⌜ Apart (block start n) place (length (now d)) ⌝ }
+    requires { ⌜ Apart ec20 (block start n) place × (length (now d) ≡ 8000) ⌝ }
     ensures { λ _. ⌜ now (d .exit) ≡ exchanged (block start n) place (now (d .entry)) ⌝ }
 {
     let mut j = 0;

@@ -1,12 +1,12 @@
 -- Where the place that is found lies. Assumes nothing.
-use Prim.Native.Nat.{ℕ, zero, suc, _+_, _-_, _≤_}
-use mathlib.Core.Bool.{Bool, true, false, not, _&&_}
+use Prim.Native.Nat.{ℕ, _+_, _-_, _≤_}
+use mathlib.Core.Bool.{true, not, _&&_}
 use mathlib.Core.Path.{_≡_, refl, sym, _∙_}
 use native.Mathlib.Omega.{arith}
 use lib.Dec.{leb}
 use borrow.Author.Tests.{leb-true}
+use Rattle.bound.proofs.First.{first-at}
 use Rattle.ec20.proofs.Tests.{both}
-use Rattle.ec20.specs.Basics.{pick, firstAt}
 use Rattle.ec20.specs.Devices.{ec20, inside, meets, meetsWork}
 use Rattle.ec20.specs.File.{Records}
 use Rattle.ec20.specs.Move.{Block, Pool, block, pool, touches, isPlace, placeOf}
@@ -15,22 +15,6 @@ use Rattle.ec20.specs.declared.Found.{Found}
 use Rattle.ec20.specs.declared.Found.the-variants.{At, Nowhere}
 use Rattle.mover.specs.Ready.{Sized}
 use Rattle.rewrite.specs.Numbers.{Below}
-
-same-at : {a q : ℕ} → At a ≡ At q → a ≡ q
-same-at e = cc
-
-apart-found : {A : Type 0} {q : ℕ} → _≡_ {A = Found} Nowhere (At q) → A
-apart-found e = let z : _≡_ {A = ℕ} 0 1 = cc in absurd (omega arith)
-
-by-first : (test : ℕ → Bool) (k q : ℕ) (t : Bool) (rest : Found) → test k ≡ t → pick t (At k) rest ≡ At q → (rest ≡ At q → test q ≡ true) → test q ≡ true
-by-first test k q true rest h e later = rw (sym (same-at e)) h
-by-first test k q false rest h e later = later e
-
--- what a search finds passes its test
-pub passes : (test : ℕ → Bool) (n k q : ℕ) → firstAt test n k ≡ At q → test q ≡ true
-unfolding firstAt
-passes test zero k q e = apart-found e
-passes test (suc n) k q e = by-first test k q (test k) (firstAt test n (k + 1)) refl e (λ g. passes test n (k + 1) q g)
 
 module _ (rs : Records) (s n from end q : ℕ) where
   -- a place lies whole in the pool
@@ -47,5 +31,5 @@ module _ (rs : Records) (s n from end q : ℕ) where
   pub is-below : {x : Found} → x ≡ placeOf ec20 rs (block s n) (pool from end) → x ≡ At q → Sized s n from end → Below s n q
   unfolding placeOf
   is-below e f w =
-      let h = in-pool (passes (isPlace ec20 rs (block s n) (pool from end)) (end - from) from q (sym e ∙ f)) in
+      let h = in-pool (first-at (isPlace ec20 rs (block s n) (pool from end)) (end - from) from q (sym e ∙ f) .passes) in
       record { start = omega (arith, w .block); length = omega (arith, w .block); place = omega (arith, h .1, w .pool, w .most) }

@@ -32,10 +32,8 @@ fn judge(
     let ten = blocks::block_fault(start, n);
     let eleven = blocks::pool_fault(from, end);
     let twelve = blocks::block_work(start, n);
-    match blocks::then(ten, blocks::then(eleven, twelve)) {
-        Judged::Fine => splits::first_split(f, first, count, start, n),
-        Judged::Fault(m, k) => Judged::Fault(m, k),
-    }
+    let thirteen = splits::first_split(f, first, count, start, n);
+    blocks::then(ten, blocks::then(eleven, blocks::then(twelve, thirteen)))
 }
 
 // 14, or the file moved to the lowest place.

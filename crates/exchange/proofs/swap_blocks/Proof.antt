@@ -24,7 +24,7 @@ loop-again : tie.Need-loop-again Inv-loop μ-loop
 loop-again c =
     let l = c .before .before .before .before in (
       search needs,
-      exchanged-more _ _ _ _ (l .before .pre) _ (omega arith) (l .loop .inv .1) (c .before .swap-words .ensures),
+      exchanged-more _ _ _ _ (l .before .pre .0) (l .before .pre .1) _ (omega arith) (l .loop .inv .1) (c .before .swap-words .ensures),
       c .before .swap-words .kept .0 ∙ l .loop .inv .2,
     )
 

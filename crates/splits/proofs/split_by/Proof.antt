@@ -7,7 +7,7 @@ use Rattle.ec20.specs.Basics.{firstAt, refusedAt}
 use Rattle.ec20.specs.File.{recordFrom}
 use Rattle.ec20.specs.Move.{block, partly, splitFault}
 use Rattle.ec20.specs.UseMap.{recordHas}
-use Rattle.splits.proofs.Search.{turn, found, done}
+use Rattle.labels.proofs.Laws.{passes, fails, none}
 use borrow.Author.Needs.{needs}
 use Rattle.splits.proofs.split_by.Statement.{statement}
 use Rattle.splits.proofs.split_by.Tie as tie
@@ -28,7 +28,7 @@ unfolding splitFault
 returns c =
     let l = c .before .before .before .before in
     let a = l .before .before .args in
-    found _ (l .loop .k) _ 13 (search needs) (c .before .is-split .ensures ∙ ap (recordHas (partly (block (a .start) (a .n)))) (c .before .before .record-from .ensures .0)) (c .if1 .taken)
+    ap (refusedAt 13) (passes _ (l .loop .k) _ (search needs) (c .before .is-split .ensures ∙ ap (recordHas (partly (block (a .start) (a .n)))) (c .before .before .record-from .ensures .0)) (c .if1 .taken))
     ∙ sym (ap (refusedAt 13) (l .loop .inv .1))
 
 loop-again : tie.Need-loop-again Inv-loop μ-loop
@@ -37,14 +37,14 @@ loop-again c =
     let a = l .before .before .args in (
       search needs,
       l .loop .inv .1
-          ∙ turn _ (l .loop .k) _ (search needs) (c .before .is-split .ensures ∙ ap (recordHas (partly (block (a .start) (a .n)))) (c .before .before .record-from .ensures .0)) (c .if1 .left),
+          ∙ fails _ (l .loop .k) _ (search needs) (c .before .is-split .ensures ∙ ap (recordHas (partly (block (a .start) (a .n)))) (c .before .before .record-from .ensures .0)) (c .if1 .left),
     )
 
 returns-2 : tie.Need-returns-2 Inv-loop μ-loop
 unfolding splitFault
 returns-2 c =
     let l = c .before .loop in
-    done _ (l .k) _ 13 (search needs) ∙ sym (ap (refusedAt 13) (l .inv .1))
+    ap (refusedAt 13) (none _ (l .k) _ (search needs) ∙ sym (l .inv .1))
 
 pub split-by-spec : {M : Type 1} → statement M
 split-by-spec =

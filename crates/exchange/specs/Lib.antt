@@ -1,2 +1,0 @@
--- Block and place apart.
-pub mod Apart

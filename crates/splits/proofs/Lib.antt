@@ -1,2 +1,0 @@
--- A search for the first record that passes a test.
-mod Search
