@@ -42,6 +42,11 @@ module _ (f : List ℕ) where
     unfolding checkOf checkFor judgeFile
     accepted-fine = first-fine (firstBad ec20 (recordsOf f)) (judgeProgram (programOf f)) (passed (framed f) (programOf f) (judgeFile ec20 f) (sym is ∙ ok) .1)
 
+  -- a whole frame names the byte of the file's first record, and their count
+  pub whole-names : {x : Frame} {first count : ℕ} → x ≡ frameOf f → x ≡ Whole first count → (first ≡ firstOf f) × (count ≡ countOf f)
+  unfolding frameOf
+  whole-names g e = whole-pick (framed f) (sym g ∙ e)
+
   -- a whole frame names the file's records
   pub whole-records : {x : Frame} {first count : ℕ} → x ≡ frameOf f → x ≡ Whole first count → recordsFrom f first count ≡ recordsOf f
   unfolding frameOf

@@ -1,0 +1,4 @@
+-- The move by its cases.
+mod Judging
+mod Placing
+mod Moving

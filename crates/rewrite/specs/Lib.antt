@@ -1,0 +1,2 @@
+-- A number of four bytes put into a file.
+pub mod Numbers
