@@ -60,6 +60,15 @@ module _ (p : Program) (e : ℕ) (c : Memory) where
   unfolding afterSteps
   made-all b = made b 0
 
+  -- a run of j steps, where the scan still goes on, comes to the world after j steps
+  pub same-world : (j : ℕ) → ((i : ℕ) → i < j → after i .st .ended ≡ 0) → after j .st .ended ≡ 0 → runOf p e j 0 (startWorld c) .after ≡ after j
+  same-world j h z =
+      let r = runOf p e j 0 (startWorld c) in
+      let m = made-all j in
+      let all : r .steps ≡ j =
+          elim (ℕ-discrete (r .steps) j) [ yes q ↦ q | no q ↦ let s = m .stopped (h (r .steps) (omega (arith, m .most, q))) in omega (arith, s) ] in
+      m .world ∙ ap after all
+
   told : (b k : ℕ) (s : Machine) → (s .ended ≡ 1) ⊎ (s .ended ≡ 0) → (s .ended ≡ 0 → k ≡ b) → Answer b k s (answerOf k s)
   unfolding answerOf
   told b k s (inl z) h = rw (ne-eqb (s .ended) 0 (λ q. omega (arith, z, q))) (ended z)

@@ -29,6 +29,7 @@ use Rattle.demands.specs.Demand2.{Reports, Demand2}
 use Rattle.demands.specs.Lines.{Accepts, Not9}
 use Rattle.demands.specs.Steps.{afterSteps, reportOf}
 use Rattle.demands.proofs.Lines.{fits-all}
+use Rattle.demands.proofs.Total.{each-sound}
 use Rattle.demands.proofs.ScanAnswers.{says, scan-runs, scan-counted, fitting-true}
 
 -- what is reported is the run's
@@ -71,6 +72,7 @@ module _ (f : List ℕ) (n w : ℕ) (ok : checkOf f ≡ Accepted n w) (e b : ℕ
 pub demand-2 : (f : List ℕ) (n w : ℕ) → checkOf f ≡ Accepted n w → Demand2 f n w
 demand-2 f n w ok = record {
   counted = λ e b c h. scan-counted f e b c (n, w, ok) h;
+  total = λ e b c h j l. each-sound f n w ok e c b (scanOf f e b c) (scan-counted f e b c (n, w, ok) h) j l;
   stops-inside = within f n w ok;
   at-most-w = few f n w ok;
   w-is-enough = λ e b c h l. scan-of-ends f n w ok e b c l (fitting-true f e b c h);

@@ -11,6 +11,11 @@ pub mod MoveAnswers
 pub mod ExchangeAnswers
 -- Steps, counted out
 pub mod Counted
+-- Flow and stacks: a byte as a stack, a step by the rung rule, a whole scan
+pub mod Stacks
+pub mod Power
+pub mod Going
+pub mod Total
 -- The demands
 pub mod Demand1
 pub mod Demand2

@@ -15,7 +15,8 @@ use Rattle.ec20.specs.Scan.{scanOf}
 use Rattle.ec20.specs.UseMap.{useMapOf}
 use Rattle.bound.specs.Scans.{EndsIn}
 use Rattle.demands.specs.Lines.{Work, Not9}
-use Rattle.demands.specs.Steps.{Counted}
+use Rattle.demands.specs.Steps.{afterSteps, Counted}
+use Rattle.demands.specs.Total.{Sound}
 
 -- ended or watchdog, with this report
 abbrev pub Reports : Scanned → Report → Type 0
@@ -26,6 +27,8 @@ pub record Demand2 (f : List ℕ) (n w : ℕ) : Type 0 where
   -- "leaves the memory, flags, errors and step count that document 01 states": it is as many steps of the definition as it tells, and the
   -- memory, in which the flags are, the first error and the record stopped at are as after exactly those steps
   pub counted : (e b : ℕ) (c : Memory) → Not9 e c → Counted (programOf f) e b c (scanOf f e b c)
+  -- and at each record that it executes document 01 gives a meaning: flow, stacks, loops and jumps are as the record needs them
+  pub total : (e b : ℕ) (c : Memory) (h : Not9 e c) (j : ℕ) → j < counted e b c h .steps → Sound (programOf f) (afterSteps (programOf f) e c j)
   -- the record stopped at is one of the program's
   pub stops-inside : (e b : ℕ) (c : Memory) (r : Report) → Reports (scanOf f e b c .answer) r → r .stop < n
   -- "It makes at most W steps."

@@ -3,6 +3,8 @@
 pub mod Lines
 -- Steps of a scan, counted out
 pub mod Steps
+-- Flow and stacks where a record is due
+pub mod Total
 -- The demands
 pub mod Demand1
 pub mod Demand2
