@@ -3,20 +3,23 @@ use Prim.Native.Nat.{ℕ, _+_, _-_, _≤_, _<_}
 use mathlib.Core.Bool.{true}
 use mathlib.Core.List.{List, [], _∷_, map}
 use mathlib.Core.Path.{_≡_, refl, sym, ap, subst, _∙_}
+use native.Mathlib.Decide.{decLt}
 use native.Mathlib.Omega.{arith}
 use lib.Dec.{leb, ltb}
 use lib.IntN.{ℤ, pos, negℤ}
-use lib.ListN.{length, set, replicate}
+use lib.ListN.{length, set, replicate, List·getD-eq-default}
 use lib.Seq.{ext-getD}
 use borrow.Author.Tests.{leb-true, ltb-true}
 use Rattle.ec20.proofs.Computing.{computing}
 use Rattle.ec20.proofs.Files.{K, SM, D, r0, r1, r2, r3, file, blank}
+use Rattle.ec20.proofs.MovedLaws.{moved-length, moved-at, comment-kept, trailer-kept}
 use Rattle.ec20.proofs.Tests.{both}
 use Rattle.ec20.specs.declared.Moved.the-variants.{To}
 use Rattle.ec20.specs.Devices.{within}
 use Rattle.ec20.specs.Exchange.{swapped, exchangeOf}
+use Rattle.ec20.specs.File.{byteAt, firstOf, countOf}
 use Rattle.ec20.specs.Memory.{Memory, withD}
-use Rattle.ec20.specs.Move.{Block, block, Pool, pool, Move, move, moveOf}
+use Rattle.ec20.specs.Move.{Block, block, Pool, pool, Move, move, moveOf, movedByte, movedFile}
 use Rattle.ec20.specs.Registers.{wordAt}
 use Rattle.ec20.specs.Scan.{Scan}
 use Rattle.moving.specs.Rename.{Swap, exchangeBy}
@@ -78,6 +81,20 @@ module _ (b : Block) (q : ℕ) where
         back : (j : ℕ) → j < length d → wordAt d′ (σ j) ≡ wordAt d j
         back j l = read σ d here j
 
+-- ---- the moved file, outside its records
+
+module _ (b : Block) (q : ℕ) (f g : List ℕ) (bytes : g ≡ movedFile b q f) where
+  same-size : length g ≡ length f
+  same-size = ap length bytes ∙ moved-length b q f
+
+  -- past the end both read as 0
+  same-byte : (i : ℕ) → movedByte b q f (firstOf f) (countOf f) i ≡ byteAt f i → byteAt g i ≡ byteAt f i
+  same-byte i e =
+      elim (decLt i (length f)) [
+        | yes h ↦ ap (λ (x : List ℕ). byteAt x i) bytes ∙ moved-at b q f i h ∙ e
+        | no h ↦ List·getD-eq-default g 0 (omega (arith, same-size, h)) ∙ sym (List·getD-eq-default f 0 (omega (arith, h)))
+      ]
+
 module _ (f : List ℕ) (byte : OfBytes f) (b : Block) (l : Pool) where
   same : (q : ℕ) (g : List ℕ) → moveOf f b l ≡ move (To q) g → Same f b q g
   unfolding exchangeOf
@@ -85,6 +102,9 @@ module _ (f : List ℕ) (byte : OfBytes f) (b : Block) (l : Pool) where
       let m = moved f byte b l q g e in
       record {
         bytes = m .bytes;
+        size = same-size b q f g (m .bytes);
+        comment = λ i h. same-byte b q f g (m .bytes) i (comment-kept b q f (firstOf f) (countOf f) i h);
+        trailer = λ i h. same-byte b q f g (m .bytes) i (trailer-kept b q f (firstOf f) (countOf f) i h);
         program = m .program;
         check = moved-check f byte b l q g e;
         exchanges = λ d h.

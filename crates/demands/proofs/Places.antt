@@ -87,8 +87,8 @@ module _ (f : List ℕ) (b : Block) (l : Pool) (ok : Accepts f) (some : 0 < b .l
         record {
           from = w .0;
           to = omega (arith, w .1, order);
-          off-block = λ i u v. not-both (common-meets q (b .length) (b .start) (b .length) i u v) (not-true _ (z .1));
-          off-work = λ i u v. not-both (common-work q (b .length) i u v) (not-true _ (y .1));
+          off-block = λ i u v. not-both (common-meets q (b .length) (b .start) (b .length) i (record { from = u .from; to = omega (arith, u .to, some) }) v) (not-true _ (z .1));
+          off-work = λ i u v. not-both (common-work q (b .length) i (record { from = u .from; to = omega (arith, u .to, some) }) v) (not-true _ (y .1));
           unused = unused-to (not-true _ (x .1));
         }
 

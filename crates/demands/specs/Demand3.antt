@@ -1,7 +1,7 @@
 -- DEMAND 3. "The mover picks the lowest right place, or says 'no place' exactly when there is none. Exchange the two ranges in the D table and
 -- run the moved program: for any memory and any series of inputs, elapsed times and budgets, every scan gives the old answer and the old
 -- memory with the ranges exchanged."
-use Prim.Native.Nat.{ℕ, _+_, _<_}
+use Prim.Native.Nat.{ℕ, _+_, _*_, _≤_, _<_}
 use mathlib.Core.List.{List, map}
 use mathlib.Core.Logic.{_↔_}
 use mathlib.Core.Path.{_≡_}
@@ -12,7 +12,7 @@ use Rattle.ec20.specs.declared.Moved.the-variants.{To, Refused}
 use Rattle.ec20.specs.Check.{checkOf}
 use Rattle.ec20.specs.Code.{programOf}
 use Rattle.ec20.specs.Exchange.{swapped, exchangeOf}
-use Rattle.ec20.specs.File.{byteAt}
+use Rattle.ec20.specs.File.{byteAt, firstOf, countOf}
 use Rattle.ec20.specs.Memory.{Memory, withD}
 use Rattle.ec20.specs.Move.{Block, Pool, move, moveOf, movedFile}
 use Rattle.ec20.specs.Registers.{wordAt}
@@ -51,6 +51,10 @@ pub record Exchanges (b : Block) (q : ℕ) (d : List ℤ) : Type 0 where
 pub record Same (f : List ℕ) (b : Block) (q : ℕ) (g : List ℕ) : Type 0 where
   -- "The moved program is the old file, byte for byte, with each D number in the block raised or lowered by the distance."
   pub bytes : g ≡ movedFile b q f
+  -- so comment and trailer are as they were, and each record is the old one with its D numbers in the block exchanged for those of the place
+  pub size : length g ≡ length f
+  pub comment : (i : ℕ) → i < firstOf f → byteAt g i ≡ byteAt f i
+  pub trailer : (i : ℕ) → firstOf f + 20 * countOf f ≤ i → byteAt g i ≡ byteAt f i
   pub program : programOf g ≡ renameProgram (swapped b q) (programOf f)
   -- it is accepted with as many records and the same W
   pub check : checkOf g ≡ checkOf f
