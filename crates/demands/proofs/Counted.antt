@@ -1,7 +1,7 @@
 -- A scan as so many steps of the definition.
 use Prim.Native.Nat.{ℕ, zero, suc, _+_, _≤_, _<_}
 use mathlib.Core.Logic.{_⊎_, inl, inr}
-use mathlib.Core.Path.{_≡_, refl, sym, ap, subst, _∙_}
+use mathlib.Core.Path.{_≡_, refl, ap, subst, _∙_}
 use native.Mathlib.Omega.{arith}
 use native.Mathlib.Numerals.{add-one}
 use native.Mathlib.Decide.{ℕ-discrete}
@@ -11,7 +11,7 @@ use Rattle.ec20.specs.Code.{Program}
 use Rattle.ec20.specs.Memory.{Memory}
 use Rattle.ec20.specs.Step.{World, stepOf}
 use Rattle.ec20.specs.Scan.{Run, runOf, startWorld, answerOf, runScan}
-use Rattle.demands.specs.Steps.{afterSteps, reportOf, Answer, ended, watchdog, Counted}
+use Rattle.demands.specs.Steps.{afterSteps, Answer, ended, watchdog, Counted}
 
 module _ (p : Program) (e : ℕ) (c : Memory) where
   abbrev after : ℕ → World
@@ -66,7 +66,7 @@ module _ (p : Program) (e : ℕ) (c : Memory) where
       let r = runOf p e j 0 (startWorld c) in
       let m = made-all j in
       let all : r .steps ≡ j =
-          elim (ℕ-discrete (r .steps) j) [ yes q ↦ q | no q ↦ let s = m .stopped (h (r .steps) (omega (arith, m .most, q))) in omega (arith, s) ] in
+      elim (ℕ-discrete (r .steps) j) [ yes q ↦ q | no q ↦ let s = m .stopped (h (r .steps) (omega (arith, m .most, q))) in omega (arith, s) ] in
       m .world ∙ ap after all
 
   told : (b k : ℕ) (s : Machine) → (s .ended ≡ 1) ⊎ (s .ended ≡ 0) → (s .ended ≡ 0 → k ≡ b) → Answer b k s (answerOf k s)
@@ -86,8 +86,8 @@ module _ (p : Program) (e : ℕ) (c : Memory) where
         in-budget = omega (arith, m .most);
         before = λ j l. m .before j (omega arith) l;
         answer =
-          subst (λ (x : World). Answer b (r .steps) (x .st) (answerOf (r .steps) (r .after .st))) (m .world)
-          (told b (r .steps) (r .after .st) h (λ z.
-          let s = m .stopped (subst (λ (x : World). x .st .ended ≡ 0) (m .world) z) in omega (arith, s)));
+            subst (λ (x : World). Answer b (r .steps) (x .st) (answerOf (r .steps) (r .after .st))) (m .world)
+            (told b (r .steps) (r .after .st) h (λ z.
+            let s = m .stopped (subst (λ (x : World). x .st .ended ≡ 0) (m .world) z) in omega (arith, s)));
         memory = ap (λ (x : World). x .mem) (m .world);
       }

@@ -9,7 +9,7 @@ use Rattle.ec20.specs.declared.Exchanged.the-variants.{Refused as NotExchanged}
 use Rattle.ec20.specs.declared.Moved.the-variants.{To, Refused as NotMoved}
 use Rattle.ec20.specs.declared.Scanned.the-variants.{Refused as NotScanned}
 use Rattle.ec20.specs.declared.Verdict.{Verdict}
-use Rattle.ec20.specs.declared.Verdict.the-variants.{Accepted, Refused}
+use Rattle.ec20.specs.declared.Verdict.the-variants.{Accepted}
 use Rattle.ec20.specs.Check.{checkOf}
 use Rattle.ec20.specs.Devices.{ec20}
 use Rattle.ec20.specs.Exchange.{exchangeOf}
@@ -47,7 +47,7 @@ unfolding useMapOf mapFor checkOf
 map-numbers f = record {
   refused = λ m k h. ap (λ (x : Verdict). mapIf ec20 x (recordsOf f)) h;
   accepted = λ ok.
-    (ap (λ (x : Verdict). mapIf ec20 x (recordsOf f) .number) (ok .2), ap (λ (x : Verdict). mapIf ec20 x (recordsOf f) .at) (ok .2));
+      (ap (λ (x : Verdict). mapIf ec20 x (recordsOf f) .number) (ok .2), ap (λ (x : Verdict). mapIf ec20 x (recordsOf f) .at) (ok .2));
 }
 
 pub demand-1 : Demand1

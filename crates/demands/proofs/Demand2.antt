@@ -2,8 +2,8 @@
 use Prim.Native.Nat.{ℕ, _≤_, _<_}
 use mathlib.Core.Bool.{Bool, true, false}
 use mathlib.Core.List.{List, [], _∷_}
-use mathlib.Core.Logic.{_⊎_, inl, inr}
-use mathlib.Core.Path.{_≡_, refl, sym, ap, subst, _∙_}
+use mathlib.Core.Logic.{inl, inr}
+use mathlib.Core.Path.{_≡_, refl, subst}
 use native.Mathlib.Omega.{arith}
 use lib.Dec.{eqb}
 use lib.IntN.{pos}
@@ -11,7 +11,6 @@ use Rattle.ec20.proofs.Computing.{computing}
 use Rattle.ec20.proofs.Files.{K, SM, D, r0, r1, file, blank}
 use Rattle.ec20.specs.declared.Machine.{Machine}
 use Rattle.ec20.specs.declared.Report.{Report}
-use Rattle.ec20.specs.declared.Scanned.{Scanned}
 use Rattle.ec20.specs.declared.Scanned.the-variants.{Ended, Watchdog}
 use Rattle.ec20.specs.declared.Verdict.the-variants.{Accepted}
 use Rattle.ec20.specs.Basics.{pick}
@@ -26,7 +25,7 @@ use Rattle.bound.proofs.Theorem.{at-most-w, due-inside, never-watchdog, scan-of
 use Rattle.moving.proofs.Map.{map-kept}
 use Rattle.moving.proofs.Work.{work-kept}
 use Rattle.demands.specs.Demand2.{Reports, Demand2}
-use Rattle.demands.specs.Lines.{Accepts, Not9}
+use Rattle.demands.specs.Lines.{Not9}
 use Rattle.demands.specs.Steps.{afterSteps, reportOf}
 use Rattle.demands.proofs.Lines.{fits-all}
 use Rattle.demands.proofs.Total.{each-sound}

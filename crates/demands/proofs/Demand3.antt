@@ -1,5 +1,5 @@
 -- DEMAND 3 IS MET: demand-3. Its words and its statement are in specs/Demand3.antt.
-use Prim.Native.Nat.{ℕ, _+_, _-_, _≤_, _<_}
+use Prim.Native.Nat.{ℕ, _+_, _<_}
 use mathlib.Core.Bool.{true}
 use mathlib.Core.List.{List, [], _∷_, map}
 use mathlib.Core.Path.{_≡_, refl, sym, ap, subst, _∙_}
@@ -108,14 +108,14 @@ module _ (f : List ℕ) (byte : OfBytes f) (b : Block) (l : Pool) where
         program = m .program;
         check = moved-check f byte b l q g e;
         exchanges = λ d h.
-          record {
-            done = m .exchange d h;
-            size = length-exchangeBy (swapped b q) d ∙ h;
-            to-place = in-place b q (m .swap) d h;
-            to-block = in-block b q (m .swap) d h;
-            others = elsewhere b q (m .swap) d h;
-            twice = twice-same b q (m .swap) d h;
-          };
+            record {
+              done = m .exchange d h;
+              size = length-exchangeBy (swapped b q) d ∙ h;
+              to-place = in-place b q (m .swap) d h;
+              to-block = in-block b q (m .swap) d h;
+              others = elsewhere b q (m .swap) d h;
+              twice = twice-same b q (m .swap) d h;
+            };
         scans = series-sim (swapped b q) (m .swap) f g (moved-check f byte b l q g e) (m .program) (m .whole);
       }
 

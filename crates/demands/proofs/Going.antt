@@ -1,32 +1,29 @@
 -- A step of an accepted program: flow and stacks stay as the rung rule has them in record order. Jumps and loops land where flow is absent and both
 -- stacks are empty: after a FOR, after a NEXT, or at an LBL, which needs no flow.
-use Prim.Native.Nat.{ℕ, zero, suc, _+_, _-_, _≤_, _<_}
-use mathlib.Core.Bool.{Bool, true, false, _&&_}
+use Prim.Native.Nat.{ℕ, _+_, _-_, _<_}
+use mathlib.Core.Bool.{Bool, true, false}
 use mathlib.Core.List.{List}
 use mathlib.Core.Path.{_≡_, refl, sym, ap, subst, _∙_}
 use native.Mathlib.Omega.{arith}
 use native.Mathlib.Numerals.{add-one}
 use native.Mathlib.Decide.{ℕ-discrete}
 use lib.Dec.{eqb, ltb}
-use lib.ListN.{getD, set, length}
+use lib.ListN.{getD, set}
 use lib.Seq.{getD-set-same, getD-set-other}
 use borrow.Author.Tests.{eqb-true, ltb-true}
 use Rattle.ec20.proofs.Tests.{both, picked}
-use Rattle.ec20.specs.declared.Control.{Control}
-use Rattle.ec20.specs.declared.Control.the-variants.{Closes, Marks}
+use Rattle.ec20.specs.declared.Control.the-variants.{Closes}
 use Rattle.ec20.specs.declared.Instr.{Instr}
 use Rattle.ec20.specs.declared.Instr.the-variants.{Nop, Contact, Compare, Join, Branch, Coil, Timer, For, Next, Jump, Label, End, Word}
 use Rattle.ec20.specs.declared.Machine.{Machine}
 use Rattle.ec20.specs.declared.Operand.{Operand}
 use Rattle.ec20.specs.declared.Outcome.{Outcome}
 use Rattle.ec20.specs.declared.Rung.{Rung}
-use Rattle.ec20.specs.Basics.{pick, one-if}
 use Rattle.ec20.specs.Code.{Program}
 use Rattle.ec20.specs.Control.{controlOf, controlsOf, marks, nextOf, labelOf, orPast}
 use Rattle.ec20.specs.Flow.{isOn, acted, failed, gone}
-use Rattle.ec20.specs.Memory.{Memory}
 use Rattle.ec20.specs.Rung.{startRung, bothEmpty, keeps, afterAction, afterRecord}
-use Rattle.ec20.specs.Step.{World, world, going, forOf, closeOf, jumpOf, outcomeOf, settle, wordOf, execOf, stepOf}
+use Rattle.ec20.specs.Step.{World, going, forOf, closeOf, jumpOf, outcomeOf, settle, wordOf, execOf, stepOf}
 use Rattle.bound.specs.Safe.{Enters, Lands, Due, Safe}
 use Rattle.bound.proofs.Onward.{Ahead, ahead, acted-on, contact-on, compare-on, join-on, branch-on, word-on}
 use Rattle.refusals.specs.Rung.{rungAt}
@@ -198,7 +195,7 @@ module _ (p : Program) (kept : (k : ℕ) → k < p .count → keeps (p .code k) 
   on : (w u : World) (i : Instr) → p .code (w .st .pc) ≡ i → Ahead w u → Follows (afterRecord i (rungAt p (w .st .pc))) (u .st) → Going w → Going u
   on w u i e a f h =
       let k : rungAt p (u .st .pc) ≡ afterRecord i (rungAt p (w .st .pc)) =
-          ap (rungAt p) (a .st .pc) ∙ rung-next (w .st .pc) ∙ ap (λ (j : Instr). afterRecord j (rungAt p (w .st .pc))) e in
+      ap (rungAt p) (a .st .pc) ∙ rung-next (w .st .pc) ∙ ap (λ (j : Instr). afterRecord j (rungAt p (w .st .pc))) e in
       record {
         stand = in-order (subst (λ (g : Rung). Follows g (u .st)) (sym k) f);
         backs = λ j l. subst (λ (b : List ℕ). Back (getD b j 0)) (sym (a .back)) (h .backs j (subst (λ (d : ℕ). j < d) (a .st .depth) l));

@@ -3,7 +3,7 @@ use Prim.Native.Nat.{ℕ, _+_, _≤_, _<_}
 use mathlib.Core.Bool.{Bool, true, false, not, _&&_}
 use mathlib.Core.List.{List}
 use mathlib.Core.Logic.{inl, inr}
-use mathlib.Core.Path.{_≡_, refl, sym, _∙_}
+use mathlib.Core.Path.{_≡_, refl}
 use native.Mathlib.Omega.{arith}
 use native.Mathlib.Decide.{decLt}
 use lib.Dec.{ltb, leb, eqb}
@@ -18,7 +18,7 @@ use Rattle.ec20.specs.Exchange.{sizeFault, placeFault}
 use Rattle.ec20.specs.Memory.{Memory, sized}
 use Rattle.ec20.specs.Move.{Block, Pool, blockFault, poolFault, blockWork}
 use Rattle.ec20.specs.Scan.{fitting}
-use Rattle.demands.specs.Lines.{In, Line9, Line10, Not10, Line11, Line12, Line9D, Line14D}
+use Rattle.demands.specs.Lines.{Line9, Line10, Not10, Line11, Line12, Line9D, Line14D}
 use Rattle.demands.specs.Lines.{size-x, size-y, size-m, size-sm, size-t, size-d, size-tv, elapsed, empty, outside, start-above, end-above, in-work}
 use Rattle.demands.specs.Lines.{outside as place-outside, in-block as place-in-block, in-work as place-in-work}
 use Rattle.demands.proofs.Ranges.{one-fails, not-both, in-common, common-meets, work-common, common-work}

@@ -1,7 +1,7 @@
 -- The mover's answer, by the lines of the table.
 use Prim.Native.Nat.{ℕ, _≤_}
 use mathlib.Core.List.{List}
-use mathlib.Core.Logic.{_↔_, _⊎_, inl, inr}
+use mathlib.Core.Logic.{_⊎_, inl, inr}
 use mathlib.Core.Path.{_≡_, refl, sym, ap, subst, _∙_}
 use native.Mathlib.Omega.{arith}
 use Rattle.ec20.specs.declared.Found.{Found}
@@ -16,11 +16,11 @@ use Rattle.ec20.specs.Basics.{then}
 use Rattle.ec20.specs.Check.{checkFor, checkOf}
 use Rattle.ec20.specs.Devices.{ec20}
 use Rattle.ec20.specs.File.{countOf, recordsOf}
-use Rattle.ec20.specs.Move.{Block, Pool, Move, move, blockFault, poolFault, blockWork, splitFault, placeOf, judgeMove, moveTo, moveIf, moveAfter, moveFor, moveOf}
+use Rattle.ec20.specs.Move.{Block, Pool, blockFault, poolFault, blockWork, splitFault, placeOf, judgeMove, moveTo, moveIf, moveAfter, moveFor, moveOf}
 use Rattle.refusals.proofs.Refused.{one-to-eight}
 use Rattle.refusals.proofs.Search.{Judges, judged-fine, judged-fault}
 use Rattle.demands.specs.Demand1.{MoveNumbers}
-use Rattle.demands.specs.Lines.{Accepts, Line10, Not10, Line11, Not11, Line12, Not12, Line13, First13, Not13, Line14, Lowest, Asked}
+use Rattle.demands.specs.Lines.{Accepts, Line10, Not10, Line11, Not11, Line12, Not12, Line13, First13, Line14, Lowest, Asked}
 use Rattle.demands.proofs.Tells.{Tells, tells-fine, tells-fault}
 use Rattle.demands.proofs.Lines.{judged-10, some-word, judged-11, judged-12}
 use Rattle.demands.proofs.Split.{judged-13}

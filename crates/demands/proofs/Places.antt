@@ -13,7 +13,7 @@ use Rattle.ec20.specs.declared.Found.the-variants.{At, Nowhere}
 use Rattle.ec20.specs.declared.Operand.{Operand}
 use Rattle.ec20.specs.declared.Place.{Place}
 use Rattle.ec20.specs.Basics.{someFrom}
-use Rattle.ec20.specs.Devices.{ec20, kindD, meets, inside, meetsWork}
+use Rattle.ec20.specs.Devices.{ec20, meets, inside, meetsWork}
 use Rattle.ec20.specs.File.{countOf, recordsOf}
 use Rattle.ec20.specs.Move.{Block, block, Pool, touches, isPlace, placeOf}
 use Rattle.ec20.specs.UseMap.{recordHas, someRecord}

@@ -1,20 +1,20 @@
 -- Flow and stacks of the machine go as the rung rule's go, where the rule is kept.
-use Prim.Native.Nat.{ℕ, zero, suc, _+_, _-_, _≤_, _<_}
+use Prim.Native.Nat.{ℕ, _+_, _-_}
 use mathlib.Core.Bool.{Bool, true, false, not, _&&_, _||_}
 use mathlib.Core.Logic.{_⊎_, inl, inr}
-use mathlib.Core.Path.{_≡_, refl, sym, ap, subst, _∙_}
+use mathlib.Core.Path.{_≡_, refl, sym, subst, _∙_}
 use native.Mathlib.Omega.{arith}
 use lib.Dec.{eqb, ltb}
 use lib.IntN.{ℤ}
 use borrow.Author.Tests.{eqb-true, ltb-true}
-use Rattle.ec20.proofs.Tests.{both, differ}
+use Rattle.ec20.proofs.Tests.{both}
 use Rattle.ec20.specs.declared.Instr.{Instr}
 use Rattle.ec20.specs.declared.Instr.the-variants.{Nop, Contact, Compare, Join, Branch, Coil, Timer, For, Next, Jump, Label, End, Word}
 use Rattle.ec20.specs.declared.Machine.{Machine}
 use Rattle.ec20.specs.declared.Rung.{Rung}
 use Rattle.ec20.specs.Basics.{pick, one-if}
 use Rattle.ec20.specs.Flow.{flowOf, isOn, push, top, pop, flowed, startsNow, loaded, contactOf, compareOf, joinOf, branchOf}
-use Rattle.ec20.specs.Rung.{rung, startRung, isLoad, starts, blocksEmpty, bothEmpty, loadOk, actionOk, branchOk, keeps, afterLoad, branchesAfter, afterAction, afterRecord}
+use Rattle.ec20.specs.Rung.{rung, startRung, isLoad, starts, blocksEmpty, bothEmpty, loadOk, actionOk, branchOk, keeps, afterLoad, branchesAfter}
 use Rattle.demands.specs.Total.{Present, Empty, Holds, Loads, Acts, Needs}
 use Rattle.demands.proofs.Stacks.{holds-none, none-holds, holds-room, holds-push, holds-pop}
 
@@ -100,8 +100,8 @@ module _ (g : Rung) (s : Machine) (h : Follows g s) where
   loading e = record {
     starting = λ z. is-empty (subst (λ (t : Bool). pick t (bothEmpty g) (ltb (g .blocks) 8) ≡ true) (sym same-start ∙ z) e);
     pushing = λ z.
-      let q = subst (λ (t : Bool). pick t (bothEmpty g) (ltb (g .blocks) 8) ≡ true) (sym same-start ∙ z) e in
-      holds-room (g .blocks) (s .blocks) (ltb-true _ _ q) (h .blocks);
+        let q = subst (λ (t : Bool). pick t (bothEmpty g) (ltb (g .blocks) 8) ≡ true) (sym same-start ∙ z) e in
+        holds-room (g .blocks) (s .blocks) (ltb-true _ _ q) (h .blocks);
   }
 
   -- THE RULE KEPT: what the record needs is there
@@ -115,8 +115,7 @@ module _ (g : Rung) (s : Machine) (h : Follows g s) where
   needed (Compare n a b) e = loading e
   needed (Join n) e = let q = both (g .present) (ltb 0 (g .blocks)) e in (is-present (q .0), ltb-true _ _ (q .1))
   needed (Branch n) e =
-      let q = both (actionOk g) (pick (eqb n 9) (ltb (g .branches) 8) (ltb 0 (g .branches))) e in
-      (
+      let q = both (actionOk g) (pick (eqb n 9) (ltb (g .branches) 8) (ltb 0 (g .branches))) e in (
         is-acting (q .0),
         λ z.
             let r = subst (λ (t : Bool). pick t (ltb (g .branches) 8) (ltb 0 (g .branches)) ≡ true) z (q .1) in

@@ -1,9 +1,9 @@
 -- The line 13: an operand's extent partly in the block, as the definition tests it and by its words.
-use Prim.Native.Nat.{ℕ, zero, suc, _+_, _≤_, _<_}
+use Prim.Native.Nat.{ℕ, _+_, _≤_, _<_}
 use mathlib.Core.Bool.{Bool, true, false, not, _&&_, _||_}
 use mathlib.Core.List.{List}
 use mathlib.Core.Logic.{inl, inr}
-use mathlib.Core.Path.{_≡_, refl, sym, ap₂, subst, _∙_}
+use mathlib.Core.Path.{_≡_, refl, ap₂}
 use native.Mathlib.Omega.{arith}
 use native.Mathlib.Decide.{ℕ-discrete}
 use borrow.Author.Tests.{eqb-true, eq-eqb, not-true}
@@ -14,10 +14,10 @@ use Rattle.ec20.specs.declared.Operand.{Operand}
 use Rattle.ec20.specs.declared.Place.{Place}
 use Rattle.ec20.specs.declared.Rec.{Rec}
 use Rattle.ec20.specs.Basics.{firstAt, refusedAt}
-use Rattle.ec20.specs.Check.{checkFor, checkOf}
-use Rattle.ec20.specs.Devices.{ec20, kindD, meets, inside}
+use Rattle.ec20.specs.Check.{checkOf}
+use Rattle.ec20.specs.Devices.{ec20, kindD, inside}
 use Rattle.ec20.specs.File.{countOf, recordsOf}
-use Rattle.ec20.specs.Move.{Block, block, touches, partly, splitFault}
+use Rattle.ec20.specs.Move.{Block, touches, partly, splitFault}
 use Rattle.ec20.specs.Operands.{kindIs, allowed}
 use Rattle.ec20.specs.Table.{rowOf, roleUnused}
 use Rattle.ec20.specs.UseMap.{someOperand, recordHas}
@@ -28,7 +28,7 @@ use Rattle.refusals.proofs.Refused.{not-refused}
 use Rattle.refusals.proofs.Search.{Judges}
 use Rattle.moved.proofs.InD.{at-word}
 use Rattle.moved.proofs.Rows.{some-word}
-use Rattle.demands.specs.Lines.{In, InBlock, Extent, Accepts, Partly, Line13, partly as is-partly}
+use Rattle.demands.specs.Lines.{InBlock, Extent, Accepts, Partly, Line13, partly as is-partly}
 use Rattle.demands.proofs.Ranges.{is-false, not-both, in-common, common-meets, inside-to, one-out}
 
 -- ---- the operands of a record

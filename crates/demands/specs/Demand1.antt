@@ -8,7 +8,6 @@ use mathlib.Core.Path.{_≡_}
 use lib.IntN.{ℤ}
 use lib.ListN.{replicate}
 use Rattle.ec20.specs.declared.Exchanged.the-variants.{Done, Refused as NotExchanged}
-use Rattle.ec20.specs.declared.Mapped.{Mapped}
 use Rattle.ec20.specs.declared.Moved.the-variants.{To, Refused as NotMoved}
 use Rattle.ec20.specs.declared.Report.{Report}
 use Rattle.ec20.specs.declared.Scanned.{Scanned}
@@ -27,7 +26,7 @@ use Rattle.refusals.specs.Frame.{Line1}
 use Rattle.refusals.specs.Records.{Line2, Line3, Line4}
 use Rattle.refusals.specs.Steps.{Line8, wOf}
 use Rattle.refusals.specs.Table.{recordAt, Not1, Not2-4, Not5, Not6, Not7, Not8, First2-4, First5, First6, First7}
-use Rattle.demands.specs.Lines.{Accepts, Line9, Not9, Line10, Not10, Line11, Not11, Line12, Not12, First13, Not13, Line14, Lowest, Asked, Line9D, Line14D}
+use Rattle.demands.specs.Lines.{Accepts, Line9, Line10, Not10, Line11, Not11, Line12, Not12, First13, Line14, Lowest, Asked, Line9D, Line14D}
 
 -- "gets an answer": some result meets the contract, which is the equation with x, and no two differ
 pub record OneAnswer {A : Type 0} (x : A) : Type 0 where
