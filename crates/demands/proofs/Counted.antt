@@ -1,16 +1,17 @@
 -- A scan as so many steps of the definition.
 use Prim.Native.Nat.{ℕ, zero, suc, _+_, _≤_, _<_}
 use mathlib.Core.Logic.{_⊎_, inl, inr}
-use mathlib.Core.Path.{_≡_, refl, ap, subst, _∙_}
+use mathlib.Core.Path.{_≡_, refl, sym, ap, ap₂, subst, _∙_}
 use native.Mathlib.Omega.{arith}
 use native.Mathlib.Numerals.{add-one}
-use native.Mathlib.Decide.{ℕ-discrete}
+use native.Mathlib.Decide.{decLt, ℕ-discrete}
 use borrow.Author.Tests.{eq-eqb, ne-eqb}
 use Rattle.ec20.specs.declared.Machine.{Machine}
 use Rattle.ec20.specs.Code.{Program}
 use Rattle.ec20.specs.Memory.{Memory}
 use Rattle.ec20.specs.Step.{World, stepOf}
-use Rattle.ec20.specs.Scan.{Run, runOf, startWorld, answerOf, runScan}
+use Rattle.ec20.specs.declared.Scanned.{Scanned}
+use Rattle.ec20.specs.Scan.{Run, Scan, scan, runOf, startWorld, answerOf, runScan}
 use Rattle.demands.specs.Steps.{afterSteps, Answer, ended, watchdog, Counted}
 
 module _ (p : Program) (e : ℕ) (c : Memory) where
@@ -91,3 +92,33 @@ module _ (p : Program) (e : ℕ) (c : Memory) where
             let s = m .stopped (subst (λ (x : World). x .st .ended ≡ 0) (m .world) z) in omega (arith, s)));
         memory = ap (λ (x : World). x .mem) (m .world);
       }
+
+  -- ---- and there is one scan that is counted so: the statement leaves nothing open
+
+  -- where END was not executed, the budget is used
+  used : {b k : ℕ} {a : Scanned} → Answer b k (after k .st) a → after k .st .ended ≡ 0 → k ≡ b
+  used (ended z) h = absurd (omega (arith, z, h))
+  used (watchdog z q) h = q
+
+  not-fewer : {b : ℕ} {s t : Scan} (x : Counted p e b c s) (y : Counted p e b c t) → x .steps < y .steps → ⊥
+  not-fewer {b} x y h = let q : x .steps ≡ b = used (x .answer) (y .before (x .steps) h) in omega (arith, y .in-budget, q, h)
+
+  same-steps : {b : ℕ} {s t : Scan} (x : Counted p e b c s) (y : Counted p e b c t) → x .steps ≡ y .steps
+  same-steps x y =
+      elim (decLt (x .steps) (y .steps)) [
+        | yes h ↦ absurd (not-fewer x y h)
+        | no h ↦ elim (decLt (y .steps) (x .steps)) [ yes g ↦ absurd (not-fewer y x g) | no g ↦ omega arith ]
+      ]
+
+  same-answer : {b k : ℕ} {m : Machine} {a d : Scanned} → Answer b k m a → Answer b k m d → a ≡ d
+  same-answer (ended z) (ended q) = refl
+  same-answer (ended z) (watchdog q r) = absurd (omega (arith, z, q))
+  same-answer (watchdog q r) (ended z) = absurd (omega (arith, z, q))
+  same-answer (watchdog z r) (watchdog q i) = refl
+
+  pub one-scan : {b : ℕ} {s t : Scan} → Counted p e b c s → Counted p e b c t → s ≡ t
+  one-scan {b} {s} {t} x y =
+      let q : y .steps ≡ x .steps = same-steps y x in
+      let a = subst (λ (k : ℕ). Answer b k (after k .st) (t .answer)) q (y .answer) in
+      let m : t .mem ≡ after (x .steps) .mem = y .memory ∙ ap (λ (k : ℕ). after k .mem) q in
+      ap₂ scan (same-answer (x .answer) a) (x .memory ∙ sym m)
