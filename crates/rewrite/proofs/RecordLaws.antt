@@ -20,12 +20,12 @@ list-at n rule x h = let e : 0 + x ≡ x = omega arith in getD-from rule 0 n x 0
 
 module _ (b : Block) (q : ℕ) (f : List ℕ) (i : ℕ) where
   -- a byte of a record that is in no operand's number is as it was
-  kind-byte : (r : ℕ) → (r - 2) % 6 < 2 → movedInRecord b q f i r ≡ byteAt f (i + r)
+  pub kind-byte : (r : ℕ) → (r - 2) % 6 < 2 → movedInRecord b q f i r ≡ byteAt f (i + r)
   unfolding movedInRecord
   kind-byte r h = rw (lt-leb _ _ h) refl
 
   -- byte t of operand m's number is that of the moved number
-  number-byte : (m t : ℕ) → t < 4 → movedInRecord b q f i (m * 6 + (4 + t)) ≡ byteOf (movedNumber b q (operandAt f (i + 2 + m * 6))) t
+  pub number-byte : (m t : ℕ) → t < 4 → movedInRecord b q f i (m * 6 + (4 + t)) ≡ byteOf (movedNumber b q (operandAt f (i + 2 + m * 6))) t
   unfolding movedInRecord
   number-byte m t h =
       let a : (m * 6 + (4 + t) - 2) / 6 ≡ m = omega arith in
@@ -35,12 +35,12 @@ module _ (b : Block) (q : ℕ) (f : List ℕ) (i : ℕ) where
       rw (a, j, le-leb _ _ l, z) refl
 
 -- where byte x stands to the record at byte i: in the number of operand m, elsewhere in the record, outside it
-data Lies (i x : ℕ) : Type 0 where
+pub data Lies (i x : ℕ) : Type 0 where
   number : (m t : ℕ) → m < 3 → t < 4 → x ≡ i + (m * 6 + (4 + t)) → Lies i x
   other : (r : ℕ) → r < 20 → (r - 2) % 6 < 2 → x ≡ i + r → Lies i x
   outside : (i ≤ x → i + 20 ≤ x) → Lies i x
 
-lies : (i x : ℕ) → Lies i x
+pub lies : (i x : ℕ) → Lies i x
 lies i x =
     elim (decLt x i) [
       | yes l ↦ outside (λ g. absurd (omega arith))
