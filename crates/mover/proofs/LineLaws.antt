@@ -1,15 +1,14 @@
 -- 10 to 13 as the mover judges them, and by their words. Assumes nothing.
-use Prim.Native.Nat.{ℕ, _+_, _-_, _<_, _≤_, zero-le}
+use Prim.Native.Nat.{ℕ, _+_, _<_, _≤_, zero-le}
 use mathlib.Core.Bool.{Bool, true, false, not, _&&_, _||_}
-use mathlib.Core.Logic.{_⊎_, inl, inr}
-use mathlib.Core.Path.{_≡_, refl, sym, ap, ap₂, _∙_}
+use mathlib.Core.Path.{_≡_, refl, sym, ap₂, _∙_}
 use native.Mathlib.Decide.{decLt, decLe}
 use native.Mathlib.Omega.{arith}
-use lib.Dec.{ltb, leb, eqb}
-use borrow.Author.Tests.{ltb-true, leb-true, eqb-true, lt-ltb, le-leb, lt-leb, eq-eqb, not-true}
+use lib.Dec.{ltb, leb}
+use borrow.Author.Tests.{ltb-true, leb-true, eqb-true, lt-ltb, le-leb, eq-eqb, not-true}
 use Rattle.bound.proofs.First.{first-at, no-first}
 use Rattle.ec20.proofs.Tests.{both, differ, picked}
-use Rattle.ec20.specs.Basics.{pick, firstAt, refusedAt}
+use Rattle.ec20.specs.Basics.{firstAt, refusedAt}
 use Rattle.ec20.specs.Devices.{Device, kindD, meets, inside, meetsWork}
 use Rattle.ec20.specs.File.{Records}
 use Rattle.ec20.specs.Move.{Block, Pool, blockFault, poolFault, blockWork, touches, partly, splitFault}

@@ -7,7 +7,7 @@ use Rattle.ec20.proofs.Tests.{one-answer}
 use Rattle.ec20.specs.Basics.{then}
 use Rattle.ec20.specs.Check.{checkFor}
 use Rattle.ec20.specs.Devices.{Device, ec20}
-use Rattle.ec20.specs.File.{Records, countOf, recordsOf}
+use Rattle.ec20.specs.File.{countOf, recordsOf}
 use Rattle.ec20.specs.Move.{Block, Pool, Move, blockFault, poolFault, blockWork, splitFault, judgeMove, placeOf, moveTo, moveIf, moveAfter, moveFor, moveOf}
 use Rattle.ec20.specs.Operands.{firstBad}
 use Rattle.ec20.specs.declared.Found.{Found}
@@ -15,7 +15,6 @@ use Rattle.ec20.specs.declared.Found.the-variants.{At, Nowhere}
 use Rattle.ec20.specs.declared.Judged.{Judged}
 use Rattle.ec20.specs.declared.Judged.the-variants.{Fine, Fault}
 use Rattle.ec20.specs.declared.Moved.{Moved}
-use Rattle.ec20.specs.declared.Moved.the-variants.{To, Refused}
 use Rattle.ec20.specs.declared.Verdict.{Verdict}
 use Rattle.ec20.specs.declared.Verdict.the-variants.{Accepted, Refused as Unfit}
 use Rattle.mover.proofs.LineLaws.{Says, says-fine, says-fault, judged-10, judged-11, judged-12, judged-13, some-words, pool-order, pool-words}

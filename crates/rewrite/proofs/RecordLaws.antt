@@ -2,13 +2,13 @@
 use Prim.Native.Nat.{ℕ, zero, suc, _+_, _-_, _*_, _/_, _%_, _<_, _≤_}
 use mathlib.Core.List.{List}
 use mathlib.Core.Path.{_≡_, refl, sym, ap, subst, _∙_}
-use native.Mathlib.Decide.{decLt, ℕ-discrete}
+use native.Mathlib.Decide.{decLt}
 use native.Mathlib.Omega.{arith}
 use lib.ListN.{length}
 use lib.Seq.{ext-getD}
 use borrow.Author.Tests.{le-leb, lt-leb}
 use Rattle.ec20.proofs.MovedLaws.{getD-from, length-from, comment-kept, trailer-kept, in-record}
-use Rattle.ec20.specs.Basics.{pick, list}
+use Rattle.ec20.specs.Basics.{list}
 use Rattle.ec20.specs.File.{byteAt, operandAt}
 use Rattle.ec20.specs.Move.{Block, byteOf, movedNumber, movedInRecord, movedByte}
 use Rattle.rewrite.proofs.NumberLaws.{u32-length, u32-other, u32-byte, operand-after}

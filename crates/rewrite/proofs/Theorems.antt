@@ -7,13 +7,11 @@ use mathlib.Core.Logic.{_⊎_, inl, inr}
 use mathlib.Core.Path.{_≡_, refl, sym, ap, subst, _∙_}
 use native.Mathlib.Decide.{decLt}
 use native.Mathlib.Omega.{arith}
-use lib.Dec.{eqb}
 use lib.ListN.{length}
 use borrow.Author.Tests.{eqb-true}
 use Rattle.blocks.proofs.Rows.{is-within}
 use Rattle.ec20.proofs.MovedLaws.{moved-at, comment-kept, trailer-kept, in-record}
 use Rattle.ec20.proofs.Tests.{both}
-use Rattle.ec20.specs.Basics.{pick}
 use Rattle.ec20.specs.Devices.{kindD, within}
 use Rattle.ec20.specs.File.{byteAt, u32At, operandAt, firstOf, countOf}
 use Rattle.ec20.specs.Move.{Block, byteOf, movedNumber, movedInRecord, movedByte, movedFile}
