@@ -3,7 +3,7 @@ ghost use Prim.Native.Nat.{_+_, _*_, _-_, _<_, _≤_, _^_};
 ghost use Rattle.ec20.specs.Devices.{ec20, limitOf, meetsWork};
 ghost use Rattle.ec20.specs.File.{recordsFrom, recordFrom};
 ghost use Rattle.ec20.specs.Numbers.{half, between, signed};
-ghost use Rattle.ec20.specs.Operands.{inRange, oneOf, constantIn, groupIn, wordsIn, isUnused, isBitRead, isBitWritten, isSource, isTarget, allowedBit, allowedWord, allowedOther, allowed, inWork, operandsOk, targetInWork, faultOf, faultIn, firstBad};
+ghost use Rattle.ec20.specs.Operands.{inRange, oneOf, constantIn, groupIn, wordsIn, isUnused, isBitRead, isBitWritten, isSource, isTarget, allowed, inWork, operandsOk, targetInWork, faultOf, faultIn, firstBad};
 ghost use Rattle.instructions.specs.Cells.{cells};
 ghost use Rattle.records.specs.Ranges.{Small, SmallRec, Held};
 ghost use lib.IntN.{pos, negℤ};
@@ -145,43 +145,26 @@ fn is_target(p: Place, o: Operand) -> bool
     (((o.kind == 3) | (o.kind == 4)) & group_in(w, o)) | words_in(e, o)
 }
 
-// No operand, a bit that is read, a bit that is written.
-fn allowed_bit(p: Place, o: Operand) -> bool
-    requires { ⌜ Small o ⌝ }
-    ensures { λ r. ⌜ r ≡ allowedBit ec20 p o ⌝ }
-{
-    ((p.role == 0) & is_unused(o))
-        | ((p.role == 1) & is_bit_read(o))
-        | ((p.role == 2) & is_bit_written(o))
-}
-
-// A source, a target, a target that is also read, quotient and remainder.
-fn allowed_word(p: Place, o: Operand) -> bool
-    requires { ⌜ Small o ⌝ }
-    ensures { λ r. ⌜ r ≡ allowedWord ec20 p o ⌝ }
-{
-    let e = records::wide(p.extent);
-    ((p.role == 3) & is_source(p, o))
-        | (((p.role == 4) | (p.role == 5)) & is_target(p, o))
-        | ((p.role == 6) & words_in(e, o))
-}
-
-// A timer, its units, the passes of a loop, a label.
-fn allowed_other(p: Place, o: Operand) -> bool
-    requires { ⌜ Small o ⌝ }
-    ensures { λ r. ⌜ r ≡ allowedOther ec20 p o ⌝ }
-{
-    ((p.role == 7) & one_of(6, o))
-        | ((p.role == 8) & constant_from(1, o))
-        | ((p.role == 9) & constant_from(0, o))
-        | ((p.role == 10) & one_of(8, o))
-}
-
+// The operand is as its place's role allows: one test, by the role.
 pub fn is_allowed(p: Place, o: Operand) -> bool
     requires { ⌜ Small o ⌝ }
     ensures { λ r. ⌜ r ≡ allowed ec20 p o ⌝ }
 {
-    allowed_bit(p, o) | allowed_word(p, o) | allowed_other(p, o)
+    let role = p.role;
+    match role {
+        0 => is_unused(o),
+        1 => is_bit_read(o),
+        2 => is_bit_written(o),
+        3 => is_source(p, o),
+        4 => is_target(p, o),
+        5 => is_target(p, o),
+        6 => words_in(records::wide(p.extent), o),
+        7 => one_of(6, o),
+        8 => constant_from(1, o),
+        9 => constant_from(0, o),
+        10 => one_of(8, o),
+        _ => false,
+    }
 }
 
 // n words from a on meet WORK.

@@ -130,10 +130,7 @@ fn load(s: Machine, b: bool) -> Machine
 fn turned(n: usize, bit: bool) -> bool
     ensures { λ r. ⌜ r ≡ pick (eqb n 2 || eqb n 4 || eqb n 6) (not bit) bit ⌝ }
 {
-    if (n == 2) | (n == 4) | (n == 6) {
-        return !bit;
-    }
-    bit
+    bit != ((n == 2) | (n == 4) | (n == 6))
 }
 
 // LD, LDI, AND, ANI, OR, ORI of a bit.

@@ -1,17 +1,20 @@
 -- One turn of the loops: of the search in a loop body, and of the search for the first record that passes a test. Assumes nothing.
 use lib.Dec.{eqb}
 use mathlib.Core.Bool.{Bool, true, false}
-use mathlib.Core.Path.{_≡_, sym, ap, _∙_}
+use mathlib.Core.Path.{_≡_, refl, sym, ap, _∙_}
 use native.Mathlib.Omega.{arith}
 use Prim.Native.Nat.{ℕ, suc, _+_, _-_, _<_, _≤_}
 use Rattle.ec20.specs.Basics.{pick, firstAt}
-use Rattle.ec20.specs.Control.{Controls, shiftOf, turnOf, byTurn, findOf, findFrom}
+use Rattle.ec20.specs.Control.{Controls, closes, marks, shiftOf, turnOf, byTurn, findOf, findFrom}
 use Rattle.ec20.specs.declared.Control.the-variants.{Plain, Opens, Closes, Jumps, Marks, Ends}
 use Rattle.ec20.specs.declared.Control.{Control}
 use Rattle.ec20.specs.declared.Found.the-variants.{At, Nowhere}
 use Rattle.ec20.specs.declared.Turn.the-variants.{Hit, Stop, On}
 use Rattle.ec20.specs.declared.Turn.{Turn}
 use Rattle.ec20.specs.Labels.{labelFault}
+use Rattle.labels.specs.Want.{wantOf}
+use Rattle.labels.specs.declared.Want.{Want}
+use Rattle.labels.specs.declared.Want.the-variants.{Close, Place}
 
 -- the search from record i on, which is d deep, by what the record does to it
 module _ (want : Control → Bool) (code : Controls) (i d n : ℕ) where
@@ -38,6 +41,32 @@ module _ (want : Control → Bool) (code : Controls) (i d n : ℕ) where
   pub over : n ≤ i → Nowhere ≡ findFrom code n want i d
   unfolding findOf
   over h = let e : n - i ≡ 0 = omega arith in rw e
+
+-- a record that no search looks for: both kinds of search pass it
+module _ (d : ℕ) where
+  same-on : (b : Bool) (t : Turn) → t ≡ pick b t t
+  same-on true t = refl
+  same-on false t = refl
+
+  pub plain-on : (w : Want) {i : Control} → i ≡ Plain → On d ≡ turnOf (wantOf w i) i d
+  unfolding turnOf shiftOf closes marks
+  plain-on Close e = rw e (same-on (eqb d 0) (On d))
+  plain-on (Place l) e = rw e (same-on (eqb d 0) (On d))
+
+  pub opens-on : (w : Want) {i : Control} {n : ℕ} → i ≡ Opens n → On (d + 1) ≡ turnOf (wantOf w i) i d
+  unfolding turnOf shiftOf closes marks
+  opens-on Close e = rw e (same-on (eqb d 0) (On (d + 1)))
+  opens-on (Place l) e = rw e (same-on (eqb d 0) (On (d + 1)))
+
+  pub jumps-on : (w : Want) {i : Control} {m : ℕ} → i ≡ Jumps m → On d ≡ turnOf (wantOf w i) i d
+  unfolding turnOf shiftOf closes marks
+  jumps-on Close e = rw e (same-on (eqb d 0) (On d))
+  jumps-on (Place l) e = rw e (same-on (eqb d 0) (On d))
+
+  pub ends-on : (w : Want) {i : Control} → i ≡ Ends → On d ≡ turnOf (wantOf w i) i d
+  unfolding turnOf shiftOf closes marks
+  ends-on Close e = rw e (same-on (eqb d 0) (On d))
+  ends-on (Place l) e = rw e (same-on (eqb d 0) (On d))
 
 -- the search goes at most one deeper
 unfoldable Near : ℕ → Turn → Type 0

@@ -1,7 +1,7 @@
 // Labels and jumps, refusal 7; and the two searches, for the NEXT of a FOR and for a label.
 ghost use Prim.Native.Nat.{_+_, _<_, _^_};
 ghost use Rattle.ec20.specs.Code.{programIn};
-ghost use Rattle.ec20.specs.Control.{controlsOf, shiftOf, turnOf, findFrom, labelOf};
+ghost use Rattle.ec20.specs.Control.{controlsOf, turnOf, marks, findFrom, labelOf};
 ghost use Rattle.ec20.specs.File.{recordsFrom};
 ghost use Rattle.ec20.specs.Labels.{same, labelFault, firstUnlabelled};
 ghost use Rattle.ec20.specs.declared.Control.the-variants.{Closes, Jumps, Marks};
@@ -20,67 +20,59 @@ pub enum Want {
     Place(usize),
 }
 
-// Is the record the one looked for?
-fn wanted(i: Control, w: Want) -> bool
-    ensures { λ r. ⌜ r ≡ wantOf w i ⌝ }
-{
-    match w {
-        Want::Close => match i {
-            Control::Plain => false,
-            Control::Opens(_) => false,
-            Control::Closes => true,
-            Control::Jumps(_) => false,
-            Control::Marks(_) => false,
-            Control::Ends => false,
-        },
-        Want::Place(l) => match i {
-            Control::Plain => false,
-            Control::Opens(_) => false,
-            Control::Closes => false,
-            Control::Jumps(_) => false,
-            Control::Marks(m) => m == l,
-            Control::Ends => false,
-        },
-    }
-}
-
-// A NEXT ends the body searched, or a loop inside it.
-fn close(d: usize) -> Turn
-    ensures { λ r. ⌜ r ≡ shiftOf Closes d ⌝ }
-{
-    if d == 0 {
-        return Turn::Stop;
-    }
-    Turn::On(d - 1)
-}
-
-// A search passes over the loops inside the body, and the body's NEXT ends it: a record that is not the one looked for, d deep.
-fn shift(i: Control, d: usize) -> Turn
-    requires { ⌜ d + 1 < 2 ^ 64 ⌝ }
-    ensures { λ r. ⌜ r ≡ shiftOf i d ⌝ }
+// Does the record set the label l?
+fn sets(i: Control, l: usize) -> bool
+    ensures { λ r. ⌜ r ≡ marks l i ⌝ }
 {
     match i {
-        Control::Plain => Turn::On(d),
-        Control::Opens(_) => Turn::On(d + 1),
-        Control::Closes => close(d),
-        Control::Jumps(_) => Turn::On(d),
-        Control::Marks(_) => Turn::On(d),
-        Control::Ends => Turn::On(d),
+        Control::Plain => false,
+        Control::Opens(_) => false,
+        Control::Closes => false,
+        Control::Jumps(_) => false,
+        Control::Marks(m) => m == l,
+        Control::Ends => false,
     }
 }
 
-// What is looked for counts only directly in the body, in no loop inside it.
+// A NEXT, d deep: it ends a loop inside the body searched, or the body, and with it the search.
+fn next_turn(w: Want, d: usize) -> Turn
+    ensures { λ r. ⌜ r ≡ turnOf (wantOf w Closes) Closes d ⌝ }
+{
+    if d != 0 {
+        return Turn::On(d - 1);
+    }
+    match w {
+        Want::Close => Turn::Hit,
+        Want::Place(_) => Turn::Stop,
+    }
+}
+
+// An LBL of the label m, d deep: it counts only directly in the body, in no loop inside it.
+fn label_turn(m: usize, w: Want, d: usize) -> Turn
+    ensures { λ r. ⌜ r ≡ turnOf (wantOf w (Marks m)) (Marks m) d ⌝ }
+{
+    if d != 0 {
+        return Turn::On(d);
+    }
+    match w {
+        Want::Close => Turn::On(d),
+        Want::Place(l) => { if m == l { Turn::Hit } else { Turn::On(d) } }
+    }
+}
+
+// What a record does to a search that is d deep in loops inside the body. One `match`, so that a record is told apart once.
 fn turn(i: Control, w: Want, d: usize) -> Turn
     requires { ⌜ d + 1 < 2 ^ 64 ⌝ }
     ensures { λ r. ⌜ r ≡ turnOf (wantOf w i) i d ⌝ }
 {
-    if d != 0 {
-        return shift(i, d);
+    match i {
+        Control::Plain => Turn::On(d),
+        Control::Opens(_) => Turn::On(d + 1),
+        Control::Closes => next_turn(w, d),
+        Control::Jumps(_) => Turn::On(d),
+        Control::Marks(m) => label_turn(m, w, d),
+        Control::Ends => Turn::On(d),
     }
-    if wanted(i, w) {
-        return Turn::Hit;
-    }
-    shift(i, d)
 }
 
 // The first wanted record from record `from` on that stands directly in the body there.
@@ -110,7 +102,7 @@ pub fn label(f: &[u8], first: usize, count: usize, l: usize) -> Found
 {
     let mut k = 0;
     while k < count {
-        if wanted(decode::control_at(f, first, count, k), Want::Place(l)) {
+        if sets(decode::control_at(f, first, count, k), l) {
             return Found::At(k);
         }
         k += 1;

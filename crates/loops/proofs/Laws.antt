@@ -39,6 +39,17 @@ passes-capped n w =
     (λ h. rw (min-eq-left h))
     (λ h. let g : n ≤ n * (w + 1) = le-mul-of-pos-right n (omega arith) in rw (min-eq-right {n = cap} {m = n} (omega arith)) (omega arith))
 
+-- no steps ahead, and one part of the steps ahead of the other
+none-ahead : (x : Walked) → capped (plus 0 (capped x)) ≡ capped x
+unfolding capped plus
+none-ahead (Done m w) = ap (Done m) (omega arith)
+none-ahead (Bad k) = refl
+
+both-ahead : (s t : ℕ) (x : Walked) → capped (plus s (capped (plus t x))) ≡ capped (plus (min (s + t) cap) x)
+unfolding capped plus
+both-ahead s t (Done m w) = ap (Done m) (omega arith)
+both-ahead s t (Bad k) = refl
+
 loop-capped : (n : ℕ) (x : Walked) → capped (loopOf n (capped x)) ≡ capped (loopOf n x)
 unfolding capped loopOf
 loop-capped n (Done m w) = ap (Done (m + 1)) (body-capped n w)
@@ -141,3 +152,45 @@ module _ (code : Controls) (count k d : ℕ) (inside : k < count) where
   pub looped-bad : (p b : ℕ) → IsSequence code count k d (Bad b) → IsLoop code count k d p (Bad b)
   unfolding IsSequence IsLoop capped loopOf
   looped-bad p b s n h = rw (← s n h) at (loop-capped p (sequenceOf code count n k d))
+
+-- The walk from record `at` on has come to record k with s steps: what is to come from there makes the whole
+unfoldable pub Ahead : Controls → ℕ → ℕ → ℕ → ℕ → ℕ → Type 0
+Ahead code count d at k s =
+    (r : Walked) → IsSequence code count k d r → IsSequence code count at d (capped (plus s r))
+
+pub ahead-none : (code : Controls) (count d at : ℕ) → Ahead code count d at at 0
+unfolding Ahead IsSequence
+ahead-none code count d at r q n h = rw (q n h) (none-ahead (sequenceOf code count n at d))
+
+module _ (code : Controls) (count k d : ℕ) (inside : k < count) (at s : ℕ) (so : Ahead code count d at k s) where
+  more : (t j : ℕ) → ((r : Walked) → IsSequence code count j d r → IsSequence code count k d (capped (plus t r))) → Ahead code count d at j (min (s + t) cap)
+  unfolding Ahead
+  more t j step r q = rw (← both-ahead s t r) (so (capped (plus t r)) (step r q))
+
+  pub ahead-go : actOf code count k d ≡ Go → Ahead code count d at (k + 1) (min (s + 1) cap)
+  ahead-go e = more 1 (k + 1) (λ r q. go code count k d inside r e q)
+
+  pub ahead-enter : (p m w : ℕ) → actOf code count k d ≡ Enter p → k < m → IsLoop code count (k + 1) (d + 1) p (Done m w) → Ahead code count d at m (min (s + w) cap)
+  ahead-enter p m w e g l = more w m (λ r q. enter code count k d inside p m w r e g l q)
+
+  bad-at : (b : ℕ) → IsSequence code count k d (Bad b) → IsSequence code count at d (Bad b)
+  unfolding Ahead capped plus
+  bad-at b q = so (Bad b) q
+
+  done-at : (m w : ℕ) → IsSequence code count k d (Done m w) → IsSequence code count at d (Done m (min (s + w) cap))
+  unfolding Ahead capped plus
+  done-at m w q = so (Done m w) q
+
+  pub ends-bad : (p b : ℕ) → actOf code count k d ≡ Enter p → IsLoop code count (k + 1) (d + 1) p (Bad b) → IsSequence code count at d (Bad b)
+  ends-bad p b e l = bad-at b (enter-bad code count k d inside p b e l)
+
+  pub ends-leave : s ≤ cap → actOf code count k d ≡ Leave → IsSequence code count at d (Done k s)
+  ends-leave h e =
+      let g : min (s + 0) cap ≡ s = omega arith in
+      rw g at (done-at k 0 (leave code count k d inside e))
+
+  pub ends-finish : actOf code count k d ≡ Finish → IsSequence code count at d (Done (k + 1) (min (s + 1) cap))
+  ends-finish e = done-at (k + 1) 1 (finish code count k d inside e)
+
+  pub ends-refuse : actOf code count k d ≡ Refuse → IsSequence code count at d (Bad k)
+  ends-refuse e = bad-at k (refuse code count k d inside e)

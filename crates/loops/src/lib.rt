@@ -95,23 +95,37 @@ fn closed(w: Walked, passes: usize) -> Walked
     }
 }
 
-// The records of a sequence from `at` on, with `depth` loops open, up to the NEXT of its loop or after END.
+// The records of a sequence from `at` on, with `depth` loops open, up to the NEXT of its loop or after END. Only a loop is a call, so that
+// the stack holds no more than the open loops.
 fn sequence(f: &[u8], first: usize, count: usize, at: usize, depth: usize) -> Walked
     requires { ⌜ Held (length (now f)) first count ⌝ }
     requires { ⌜ (at < count) × (depth ≤ 8) ⌝ }
     ensures { λ r. ⌜ IsSequence (controlsIn (now (f .entry)) first count) count at depth r ⌝ }
 {
-    let next = at + 1;
-    match asked(f, first, count, at, depth) {
-        Act::Go => add(sequence(f, first, count, next, depth), 1),
-        Act::Enter(n) => match in_loop(f, first, count, next, depth + 1, n) {
-            Walked::Done(after, steps) => add(sequence(f, first, count, after, depth), steps),
-            Walked::Bad(k) => Walked::Bad(k),
-        },
-        Act::Leave => Walked::Done(at, 0),
-        Act::Finish => Walked::Done(next, 1),
-        Act::Refuse => Walked::Bad(at),
+    let mut k = at;
+    let mut steps = 0;
+    while k < count {
+        let next = k + 1;
+        match asked(f, first, count, k, depth) {
+            Act::Go => {
+                steps = least(steps + 1);
+                k = next;
+                continue;
+            }
+            Act::Enter(n) => match in_loop(f, first, count, next, depth + 1, n) {
+                Walked::Done(after, more) => {
+                    steps = least(steps + more);
+                    k = after;
+                    continue;
+                }
+                Walked::Bad(b) => return Walked::Bad(b),
+            },
+            Act::Leave => return Walked::Done(k, steps),
+            Act::Finish => return Walked::Done(next, least(steps + 1)),
+            Act::Refuse => return Walked::Bad(k),
+        }
     }
+    Walked::Bad(k)
 }
 
 // The loop of so many passes whose body begins at record `body`, the record after its FOR, with `depth` loops open, it among them: up to

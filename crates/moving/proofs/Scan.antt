@@ -29,7 +29,7 @@ pub fitting-words : (v : Device) (e : ℕ) (c : Memory) → fitting v e c ≡ tr
 unfolding fitting sized
 fitting-words v e c h =
     let before =
-        eqb (length (c .x)) 32 && eqb (length (c .y)) 32 && eqb (length (c .m)) 250 && eqb (length (c .sm)) 32 && eqb (length (c .t)) 32 in
+    eqb (length (c .x)) 32 && eqb (length (c .y)) 32 && eqb (length (c .m)) 250 && eqb (length (c .sm)) 32 && eqb (length (c .t)) 32 in
     let words = eqb (length (c .d)) (v .words) in
     let all = both (sized v c) (leb e 32767) h .0 in
     eqb-true _ _ (both before words (both (before && words) (eqb (length (c .tv)) 256) all .0) .1)

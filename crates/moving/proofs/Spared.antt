@@ -85,9 +85,9 @@ module _ (i : ℕ) where
         let c1 = storeOf w t (r .value) c in
         let one : Holds c1 = store-spares w t (r .value) c a h in
         let two : Holds (pick (eqb (r .two) 1) (storeOf w (following w t) (r .second) c1) c1) =
-            picked Holds (eqb (r .two) 1) _ _
-            (λ q. store-spares w (following w t) (r .second) c1 (λ k j l e. b (eqb-true _ _ q) k (wordsOf w + j) (omega arith) (omega arith)) one)
-            (λ _. one) in
+        picked Holds (eqb (r .two) 1) _ _
+        (λ q. store-spares w (following w t) (r .second) c1 (λ k j l e. b (eqb-true _ _ q) k (wordsOf w + j) (omega arith) (omega arith)) one)
+        (λ _. one) in
         picked Holds (eqb (r .flags) 1) _ _ (λ _. two) (λ _. two)
 
     -- SPARED: an instruction that does not write word i keeps it

@@ -45,7 +45,7 @@ length-store-all w t r c =
     let c1 = storeOf w t (r .value) c in
     let one : length (c1 .d) ≡ length (c .d) = length-store w t (r .value) c in
     let two : Long (length (c .d)) (pick (eqb (r .two) 1) (storeOf w (following w t) (r .second) c1) c1) =
-        picked (Long (length (c .d))) (eqb (r .two) 1) _ _ (λ _. length-store w (following w t) (r .second) c1 ∙ one) (λ _. one) in
+    picked (Long (length (c .d))) (eqb (r .two) 1) _ _ (λ _. length-store w (following w t) (r .second) c1 ∙ one) (λ _. one) in
     picked (Long (length (c .d))) (eqb (r .flags) 1) _ _ (λ _. two) (λ _. two)
 
 -- what a target of D becomes
@@ -114,10 +114,10 @@ module _ (σ : ℕ → ℕ) (w : ℕ) where
       let e1 : d1 ≡ exMemory σ c1 = store-sim t (r .value) c a h in
       let h1 : Swap σ (length (c1 .d)) = subst (Swap σ) (sym (length-store w t (r .value) c)) h in
       let e2 : pick (eqb (r .two) 1) (storeOf w (following w (renameOperand σ t)) (r .second) d1) d1
-              ≡ exMemory σ (pick (eqb (r .two) 1) (storeOf w (following w t) (r .second) c1) c1) =
-          pick-sim (exMemory σ) (eqb (r .two) 1) _ _ _ _
-          (λ q.
-          let b2 = b (eqb-true _ _ q) in
-          rw (e1, follow-same t b2) (store-sim (following w t) (r .second) c1 (follow-along t b2) h1))
-          (λ _. e1) in
+      ≡ exMemory σ (pick (eqb (r .two) 1) (storeOf w (following w t) (r .second) c1) c1) =
+      pick-sim (exMemory σ) (eqb (r .two) 1) _ _ _ _
+      (λ q.
+      let b2 = b (eqb-true _ _ q) in
+      rw (e1, follow-same t b2) (store-sim (following w t) (r .second) c1 (follow-along t b2) h1))
+      (λ _. e1) in
       rw e2 (pick-sim (exMemory σ) (eqb (r .flags) 1) _ _ _ _ (λ _. refl) (λ _. refl))

@@ -99,11 +99,11 @@ record-spares i r e =
     (λ _. picked (Spared i) (eqb f formLabel) _ _ (λ _. tt)
     (λ _. picked (Spared i) (eqb f formEnd) _ _ (λ _. tt)
     (λ _. picked (Spared i) (eqb f formThree) _ _
-      (λ q. place-spares i (r .number) w (w .third) (r .third) refl (first-of (eqb f formThree) _ _ q ok) (ab .1))
+    (λ q. place-spares i (r .number) w (w .third) (r .third) refl (first-of (eqb f formThree) _ _ q ok) (ab .1))
     (λ q3. picked (Spared i) (eqb f formTwo) _ _
-      (λ q. place-spares i (r .number) w (w .second) (r .second) refl (first-of (eqb f formTwo) _ _ q (second-of (eqb f formThree) _ _ q3 ok)) (a .1))
+    (λ q. place-spares i (r .number) w (w .second) (r .second) refl (first-of (eqb f formTwo) _ _ q (second-of (eqb f formThree) _ _ q3 ok)) (a .1))
     (λ q2. picked (Spared i) (eqb f formOne) _ _
-      (λ q.
-      place-spares i (r .number) w (w .first) (r .first) refl
-      (first-of (eqb f formOne) _ _ q (second-of (eqb f formTwo) _ _ q2 (second-of (eqb f formThree) _ _ q3 ok))) (a .0))
+    (λ q.
+    place-spares i (r .number) w (w .first) (r .first) refl
+    (first-of (eqb f formOne) _ _ q (second-of (eqb f formTwo) _ _ q2 (second-of (eqb f formThree) _ _ q3 ok))) (a .0))
     (λ _. tt))))))))))))))

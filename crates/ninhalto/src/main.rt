@@ -2,7 +2,10 @@
 // output; what it could not try, and what a refusal means, to standard error.
 mod check;
 mod files;
+mod numbers;
 mod report;
+mod scan;
+mod tables;
 mod text;
 mod words;
 
@@ -10,6 +13,8 @@ mod words;
 fn run(command: &[u8], words: usize) {
     if text::same(command, b"check") & (words == 3) {
         check::run();
+    } else if text::same(command, b"scan") & ((words == 5) | (words == 6)) {
+        scan::run(words);
     } else {
         report::usage();
     }

@@ -1,5 +1,6 @@
 // What is printed: an answer or a refusal on standard output, and the reason on standard error.
 use crate::words;
+use ec20::Report;
 use libc::STDERR_FILENO;
 use libc::STDOUT_FILENO;
 
@@ -19,9 +20,30 @@ pub fn accepted(records: usize, steps: usize) {
     say(STDOUT_FILENO, b"\n");
 }
 
-// Why, in words: the file, the number, the record if one is told, and what the number means.
-fn reason(path: &[u8], number: usize, record: usize) {
-    say(STDERR_FILENO, path);
+// A scan that ended, or was stopped by the watchdog.
+pub fn scanned(how: &[u8], r: Report) {
+    say(STDOUT_FILENO, how);
+    say(STDOUT_FILENO, b" steps ");
+    say_number(STDOUT_FILENO, r.steps);
+    say(STDOUT_FILENO, b" record ");
+    say_number(STDOUT_FILENO, r.stop);
+    say(STDOUT_FILENO, b" error ");
+    say_number(STDOUT_FILENO, r.error);
+    say(STDOUT_FILENO, b" record ");
+    say_number(STDOUT_FILENO, r.at);
+    say(STDOUT_FILENO, b"\n");
+}
+
+// A word of the call as it was given.
+fn say_word(fd: i32, i: usize) {
+    let mut text = io::buffer();
+    let n = os::arg(i, &mut text);
+    say(fd, &text[..n]);
+}
+
+// Why, in words: the file that word `file` of the call names, the number, the record if one is told, and what the number means.
+fn reason(file: usize, number: usize, record: usize) {
+    say_word(STDERR_FILENO, file);
     say(STDERR_FILENO, b": refusal ");
     say_number(STDERR_FILENO, number);
     if words::tells_record(number) {
@@ -33,15 +55,18 @@ fn reason(path: &[u8], number: usize, record: usize) {
     say(STDERR_FILENO, b"\n");
 }
 
-pub fn refused(path: &[u8], number: usize, record: usize) {
+pub fn refused(file: usize, number: usize, record: usize) {
     say(STDOUT_FILENO, b"refused ");
     say_number(STDOUT_FILENO, number);
     say(STDOUT_FILENO, b" record ");
     say_number(STDOUT_FILENO, record);
     say(STDOUT_FILENO, b"\n");
-    reason(path, number, record);
+    reason(file, number, record);
 }
 
 pub fn usage() {
-    say(STDERR_FILENO, b"usage: ninhalto check FILE\n");
+    say(
+        STDERR_FILENO,
+        b"usage: ninhalto check FILE, or ninhalto scan FILE MEMORY ELAPSED [BUDGET]\n",
+    );
 }

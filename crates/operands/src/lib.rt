@@ -13,33 +13,13 @@ ghost use lib.IntN.{ℤ};
 ghost use lib.Signed.{mag};
 ghost use Rattle.ec20.specs.Basics.{pick, one-if};
 ghost use Rattle.ec20.specs.Numbers.{bitsIn, half};
-ghost use Rattle.ec20.specs.Memory.{memory, bitsOf, loadBit, storeBit, constantAt, loadOf, storeOf, following};
+ghost use Rattle.ec20.specs.Memory.{memory, loadBit, storeBit, constantAt, loadOf, storeOf, following};
 ghost use Rattle.ec20.specs.Words.{withFlags, storeAll};
 ghost use Rattle.ec20.specs.Flow.{coilOf};
 ghost use Rattle.ec20.specs.Timers.{unitsOf, oldOf, countedOf, contactIs, limitAt, timerOf};
 ghost use Rattle.arith.specs.Bounded.{Bounded};
 
-// The bits of a kind: X, Y, M, SM; T contacts for all others.
-fn bits_of<'a>(
-    k: usize,
-    x: &'a [u8],
-    y: &'a [u8],
-    m: &'a [u8],
-    sm: &'a [u8],
-    t: &'a [u8],
-) -> &'a [u8]
-    ensures { λ r. ⌜ ((d tv : List ℤ) → now r ≡ bitsOf k (memory (now (x .entry)) (now (y .entry)) (now (m .entry)) (now (sm .entry)) (now (t .entry)) d tv)) ⌝ }
-{
-    match k {
-        2 => x,
-        3 => y,
-        4 => m,
-        5 => sm,
-        _ => t,
-    }
-}
-
-// "bit: X, Y, M, SM, T": whether the bit that the operand names is on.
+// "bit: X, Y, M, SM, T": whether the bit that the operand names is on; T contacts for all kinds but X, Y, M and SM.
 pub fn load_bit<'a>(
     o: Operand,
     x: &'a [u8],
@@ -50,8 +30,15 @@ pub fn load_bit<'a>(
 ) -> bool
     ensures { λ r. ⌜ ((d tv : List ℤ) → r ≡ loadBit o (memory (now (x .entry)) (now (y .entry)) (now (m .entry)) (now (sm .entry)) (now (t .entry)) d tv)) ⌝ }
 {
-    let bits = bits_of(o.kind, x, y, m, sm, t);
-    bits::bit_at(bits, o.value) == 1
+    let v = o.value;
+    let k = o.kind;
+    match k {
+        2 => bits::bit_at(x, v) == 1,
+        3 => bits::bit_at(y, v) == 1,
+        4 => bits::bit_at(m, v) == 1,
+        5 => bits::bit_at(sm, v) == 1,
+        _ => bits::bit_at(t, v) == 1,
+    }
 }
 
 // "constant (two's complement)": the value as a number of w bits.

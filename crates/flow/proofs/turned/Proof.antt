@@ -1,12 +1,18 @@
-use mathlib.Core.Path.{refl}
+-- A bit that differs from what turns it.
+use mathlib.Core.Bool.{Bool, true, false, not, Bool·beq}
+use mathlib.Core.Path.{_≡_, refl}
+use Rattle.ec20.specs.Basics.{pick}
 use Rattle.flow.proofs.turned.Statement.{statement}
 use Rattle.flow.proofs.turned.Tie as tie
 
-returns : tie.Need-returns
-returns c = rw (c .if1 .taken) refl
+differs : (b t : Bool) → not (Bool·beq b t) ≡ pick t (not b) b
+differs true true = refl
+differs true false = refl
+differs false true = refl
+differs false false = refl
 
-returns-2 : tie.Need-returns-2
-returns-2 c = rw (c .if1 .left) refl
+returns : tie.Need-returns
+returns c = differs (c .args .bit) _
 
 pub turned-spec : {M : Type 1} → statement M
-turned-spec = tie.close (tie.spec returns returns-2)
+turned-spec = tie.close (tie.spec returns)

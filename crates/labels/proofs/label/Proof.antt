@@ -24,12 +24,12 @@ loop-holds c = rw sub-zero
 returns : tie.Need-returns Inv-loop μ-loop
 returns c =
     let l = c .before .before .before .before .loop in
-    passes _ (l .k) _ (search needs) (rw (c .before .before .control-at .ensures) at (c .before .wanted .ensures)) (c .if1 .taken) ∙ sym (l .inv)
+    passes _ (l .k) _ (search needs) (rw (c .before .before .control-at .ensures) at (c .before .sets .ensures)) (c .if1 .taken) ∙ sym (l .inv)
 
 loop-again : tie.Need-loop-again Inv-loop μ-loop
 loop-again c =
     let l = c .before .before .before .before .loop in
-    l .inv ∙ fails _ (l .k) _ (search needs) (rw (c .before .before .control-at .ensures) at (c .before .wanted .ensures)) (c .if1 .left)
+    l .inv ∙ fails _ (l .k) _ (search needs) (rw (c .before .before .control-at .ensures) at (c .before .sets .ensures)) (c .if1 .left)
 
 returns-2 : tie.Need-returns-2 Inv-loop μ-loop
 returns-2 c =

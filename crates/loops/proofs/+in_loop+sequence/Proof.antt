@@ -1,12 +1,13 @@
 -- The two walkers, by one measure: the records that remain, which fall at each call of either by either.
-use Prim.Native.Nat.{ℕ, _-_, _<_}
+use Prim.Native.Nat.{ℕ, _-_, _<_, _≤_}
 use native.Mathlib.Omega.{arith}
 use mathlib.Core.Path.{_≡_, sym, _∙_}
 use borrow.Author.Needs.{needs}
 use borrow.Fn.Kinds.{In}
 use borrow.Fn.PlainCycle.{Measures, is, falls, and}
-use Rattle.loops.specs.Walks.{Small}
-use Rattle.loops.proofs.Laws.{go-in, enter-in, no-finish, small, after-in, go, enter, enter-bad, leave, finish, refuse, looped, looped-bad}
+use Rattle.loops.specs.Capped.{cap}
+use Rattle.loops.specs.Walks.{controlsIn, Small}
+use Rattle.loops.proofs.Laws.{go-in, enter-in, no-finish, small, after-in, go, enter, enter-bad, leave, refuse, looped, looped-bad, Ahead, ahead-none, ahead-go, ahead-enter, ends-bad, ends-leave, ends-finish, ends-refuse}
 use Rattle.loops.proofs.in_loop.Reads as in-loop
 use Rattle.loops.proofs.in_loop.Kinds as in-loop-kinds
 use Rattle.loops.proofs.+in_loop+sequence.Lts-in_loop as in-loop-lts
@@ -16,6 +17,7 @@ use Rattle.loops.proofs.+in_loop+sequence.Lts-sequence as sequence-lts
 use Rattle.loops.proofs.add.Reads as add-reads
 use Rattle.loops.proofs.asked.Reads as asked-reads
 use Rattle.loops.proofs.closed.Reads as closed-reads
+use Rattle.loops.proofs.least.Reads as least-reads
 use Rattle.loops.proofs.+in_loop+sequence.{statement}
 use Rattle.loops.proofs.+in_loop+sequence.Tie.{close}
 
@@ -46,7 +48,7 @@ in-loop-calls t =
 
 abbrev sequence-calls : ℕ → sequence-lts.Claims
 sequence-calls t =
-    (asked-reads.Asked, asked-reads.Learnt, sequence-below t, sequence.Post, add-reads.Asked, add-reads.Learnt, in-loop-below t, in-loop.Post)
+    (asked-reads.Asked, asked-reads.Learnt, least-reads.Asked, least-reads.Learnt, in-loop-below t, in-loop.Post)
 
 in-loop-sequence-requires : (t : ℕ) → in-loop-lts.Need-sequence-requires (in-loop-calls t) (in-loop-at t) in-loop.Post
 in-loop-sequence-requires t c κs =
@@ -132,72 +134,81 @@ in-loop-returns-5 t c = absurd (no-finish _ _ _ _ (omega arith) (sym (c .before 
 in-loop-returns-6 : (t : ℕ) → in-loop-lts.Need-returns-6 (in-loop-calls t) (in-loop-at t) in-loop.Post
 in-loop-returns-6 t c = looped-bad _ _ _ _ (omega arith) _ _ (refuse _ _ _ _ (omega arith) (sym (c .before .before .asked .ensures) ∙ c .enum-told4 .given .1))
 
-sequence-sequence-requires : (t : ℕ) → sequence-lts.Need-sequence-requires (sequence-calls t) (sequence-at t) sequence.Post
-sequence-sequence-requires t c κs =
-    let e = sym (c .before .before .asked .ensures) ∙ c .enum-told .given .1 in
-    let h = go-in _ _ _ _ (omega arith) e in
-    search needs
+-- the walk has come to record k: what is to come from there makes the whole
+abbrev sequence-Inv-loop : sequence-lts.InvT-loop
+sequence-Inv-loop f first count at depth k₀ steps₀ k steps =
+    ((at ≤ k) × (k < count)) × ((steps ≤ cap) × Ahead (controlsIn f first count) count depth at k steps)
 
-sequence-add-requires : (t : ℕ) → sequence-lts.Need-add-requires (sequence-calls t) (sequence-at t) sequence.Post
-sequence-add-requires t c κs =
+abbrev sequence-μ-loop : sequence-lts.MeasureT-loop
+sequence-μ-loop f first count at depth k₀ steps₀ k steps = count - k
+
+sequence-loop-holds : (t : ℕ) → sequence-lts.Need-loop-holds (sequence-calls t) (sequence-at t) sequence.Post sequence-Inv-loop sequence-μ-loop
+sequence-loop-holds t c = ((omega arith, omega arith), (omega arith, ahead-none _ _ _ _))
+
+sequence-loop-less : (t : ℕ) → sequence-lts.Need-loop-less (sequence-calls t) (sequence-at t) sequence.Post sequence-Inv-loop sequence-μ-loop
+sequence-loop-less t c = omega arith
+
+sequence-loop-again : (t : ℕ) → sequence-lts.Need-loop-again (sequence-calls t) (sequence-at t) sequence.Post sequence-Inv-loop sequence-μ-loop
+sequence-loop-again t c =
     let e = sym (c .before .before .before .asked .ensures) ∙ c .before .enum-told .given .1 in
     let h = go-in _ _ _ _ (omega arith) e in
-    (omega arith, small _ _ _ _ h _ (omega arith) (c .sequence .ensures))
+    ((omega arith, omega arith), (omega arith, rw (c .least .ensures) (ahead-go _ _ _ _ (omega arith) _ _ (c .before .before .before .before .before .loop .inv .1 .1) e)))
 
-sequence-add-in-loop : (t : ℕ) → sequence-lts.Need-add-in-loop (sequence-calls t) (sequence-at t) sequence.Post
-sequence-add-in-loop t c =
-    let e = sym (c .before .before .before .asked .ensures) ∙ c .before .n .given .1 in
-    let h = enter-in _ _ _ _ (omega arith) _ e in
-    omega arith
+sequence-add-in-loop : (t : ℕ) → sequence-lts.Need-add-in-loop (sequence-calls t) (sequence-at t) sequence.Post sequence-Inv-loop sequence-μ-loop
+sequence-add-in-loop t c = omega arith
 
-sequence-in-loop-requires : (t : ℕ) → sequence-lts.Need-in-loop-requires (sequence-calls t) (sequence-at t) sequence.Post
+sequence-in-loop-requires : (t : ℕ) → sequence-lts.Need-in-loop-requires (sequence-calls t) (sequence-at t) sequence.Post sequence-Inv-loop sequence-μ-loop
 sequence-in-loop-requires t c κs =
     let e = sym (c .before .before .before .asked .ensures) ∙ c .before .n .given .1 in
     let h = enter-in _ _ _ _ (omega arith) _ e in
     search needs
 
-sequence-sequence-requires-2 : (t : ℕ) → sequence-lts.Need-sequence-requires-2 (sequence-calls t) (sequence-at t) sequence.Post
-sequence-sequence-requires-2 t c κs =
+sequence-add-least-2 : (t : ℕ) → sequence-lts.Need-add-least-2 (sequence-calls t) (sequence-at t) sequence.Post sequence-Inv-loop sequence-μ-loop
+sequence-add-least-2 t c =
     let e = sym (c .before .before .before .before .before .before .before .asked .ensures) ∙ c .before .before .before .before .before .n .given .1 in
     let h = enter-in _ _ _ _ (omega arith) _ e in
     let l = rw (c .before .after .given .1) at (c .before .before .before .in-loop .ensures) in
     let g = after-in _ _ _ _ (h .0) _ _ _ (omega arith) l in
-    search needs
+    omega arith
 
-sequence-add-requires-2 : (t : ℕ) → sequence-lts.Need-add-requires-2 (sequence-calls t) (sequence-at t) sequence.Post
-sequence-add-requires-2 t c κs =
+sequence-loop-less-2 : (t : ℕ) → sequence-lts.Need-loop-less-2 (sequence-calls t) (sequence-at t) sequence.Post sequence-Inv-loop sequence-μ-loop
+sequence-loop-less-2 t c =
     let e = sym (c .before .before .before .before .before .before .before .before .asked .ensures) ∙ c .before .before .before .before .before .before .n .given .1 in
     let h = enter-in _ _ _ _ (omega arith) _ e in
     let l = rw (c .before .before .after .given .1) at (c .before .before .before .before .in-loop .ensures) in
     let g = after-in _ _ _ _ (h .0) _ _ _ (omega arith) l in
-    (g .1 .1, small _ _ _ _ (g .1 .0) _ (omega arith) (c .sequence2 .ensures))
+    omega arith
 
-sequence-returns : (t : ℕ) → sequence-lts.Need-returns (sequence-calls t) (sequence-at t) sequence.Post
-sequence-returns t c =
-    let e = sym (c .before .before .before .before .asked .ensures) ∙ c .before .before .enum-told .given .1 in
-    rw (c .add .ensures) (go _ _ _ _ (omega arith) _ e (c .before .sequence .ensures))
-
-sequence-returns-2 : (t : ℕ) → sequence-lts.Need-returns-2 (sequence-calls t) (sequence-at t) sequence.Post
-sequence-returns-2 t c =
-    let e = sym (c .before .before .before .before .before .before .before .before .before .asked .ensures) ∙ c .before .before .before .before .before .before .before .n .given .1 in
+sequence-loop-again-2 : (t : ℕ) → sequence-lts.Need-loop-again-2 (sequence-calls t) (sequence-at t) sequence.Post sequence-Inv-loop sequence-μ-loop
+sequence-loop-again-2 t c =
+    let e = sym (c .before .before .before .before .before .before .before .before .asked .ensures) ∙ c .before .before .before .before .before .before .n .given .1 in
     let h = enter-in _ _ _ _ (omega arith) _ e in
-    let l = rw (c .before .before .before .after .given .1) at (c .before .before .before .before .before .in-loop .ensures) in
+    let l = rw (c .before .before .after .given .1) at (c .before .before .before .before .in-loop .ensures) in
     let g = after-in _ _ _ _ (h .0) _ _ _ (omega arith) l in
-    rw (c .add2 .ensures) (enter _ _ _ _ (omega arith) _ _ _ _ e (omega arith) l (c .before .sequence2 .ensures))
+    ((omega arith, omega arith), (omega arith, rw (c .least2 .ensures) (ahead-enter _ _ _ _ (omega arith) _ _ (c .before .before .before .before .before .before .before .before .before .before .loop .inv .1 .1) _ _ _ e (omega arith) l)))
 
-sequence-returns-3 : (t : ℕ) → sequence-lts.Need-returns-3 (sequence-calls t) (sequence-at t) sequence.Post
-sequence-returns-3 t c =
+sequence-returns : (t : ℕ) → sequence-lts.Need-returns (sequence-calls t) (sequence-at t) sequence.Post sequence-Inv-loop sequence-μ-loop
+sequence-returns t c =
     let e = sym (c .before .before .before .before .before .before .before .asked .ensures) ∙ c .before .before .before .before .before .n .given .1 in
-    enter-bad _ _ _ _ (omega arith) _ _ e (rw (c .before .k .given .1) at (c .before .before .before .in-loop .ensures))
+    ends-bad _ _ _ _ (omega arith) _ _ (c .before .before .before .before .before .before .before .before .before .loop .inv .1 .1) _ _ e (rw (c .before .b .given .1) at (c .before .before .before .in-loop .ensures))
 
-sequence-returns-4 : (t : ℕ) → sequence-lts.Need-returns-4 (sequence-calls t) (sequence-at t) sequence.Post
-sequence-returns-4 t c = leave _ _ _ _ (omega arith) (sym (c .before .before .asked .ensures) ∙ c .enum-told2 .given .1)
+sequence-returns-2 : (t : ℕ) → sequence-lts.Need-returns-2 (sequence-calls t) (sequence-at t) sequence.Post sequence-Inv-loop sequence-μ-loop
+sequence-returns-2 t c =
+    let e = sym (c .before .before .asked .ensures) ∙ c .enum-told2 .given .1 in
+    ends-leave _ _ _ _ (omega arith) _ _ (c .before .before .before .before .loop .inv .1 .1) (omega arith) e
 
-sequence-returns-5 : (t : ℕ) → sequence-lts.Need-returns-5 (sequence-calls t) (sequence-at t) sequence.Post
-sequence-returns-5 t c = finish _ _ _ _ (omega arith) (sym (c .before .before .asked .ensures) ∙ c .enum-told3 .given .1)
+sequence-returns-3 : (t : ℕ) → sequence-lts.Need-returns-3 (sequence-calls t) (sequence-at t) sequence.Post sequence-Inv-loop sequence-μ-loop
+sequence-returns-3 t c =
+    let e = sym (c .before .before .before .asked .ensures) ∙ c .before .enum-told3 .given .1 in
+    rw (c .least3 .ensures) (ends-finish _ _ _ _ (omega arith) _ _ (c .before .before .before .before .before .loop .inv .1 .1) e)
 
-sequence-returns-6 : (t : ℕ) → sequence-lts.Need-returns-6 (sequence-calls t) (sequence-at t) sequence.Post
-sequence-returns-6 t c = refuse _ _ _ _ (omega arith) (sym (c .before .before .asked .ensures) ∙ c .enum-told4 .given .1)
+sequence-returns-4 : (t : ℕ) → sequence-lts.Need-returns-4 (sequence-calls t) (sequence-at t) sequence.Post sequence-Inv-loop sequence-μ-loop
+sequence-returns-4 t c =
+    let e = sym (c .before .before .asked .ensures) ∙ c .enum-told4 .given .1 in
+    ends-refuse _ _ _ _ (omega arith) _ _ (c .before .before .before .before .loop .inv .1 .1) e
+
+sequence-returns-5 : (t : ℕ) → sequence-lts.Need-returns-5 (sequence-calls t) (sequence-at t) sequence.Post sequence-Inv-loop sequence-μ-loop
+sequence-returns-5 t c = absurd (omega arith)
 
 pub +in-loop+sequence-spec : {M : Type 1} → statement M
 +in-loop+sequence-spec =
@@ -227,25 +238,31 @@ pub +in-loop+sequence-spec : {M : Type 1} → statement M
     (in-loop-returns-4 t)
     (in-loop-returns-5 t)
     (in-loop-returns-6 t))
-    (λ t. sequence-lts.spec (sequence-calls t) (sequence-at t) sequence.Post
+    (λ t. sequence-lts.spec (sequence-calls t) (sequence-at t) sequence.Post sequence-Inv-loop sequence-μ-loop
+    (sequence-loop-holds t)
     (λ c. search needs)
     (λ c κs. search needs)
     (λ c. search needs)
-    (sequence-sequence-requires t)
-    (sequence-add-requires t)
+    (λ c. search needs)
+    (λ c κs. search needs)
+    (sequence-loop-less t)
+    (sequence-loop-again t)
     (λ c. search needs)
     (sequence-add-in-loop t)
     (sequence-in-loop-requires t)
     (λ c. search needs)
-    (sequence-sequence-requires-2 t)
-    (sequence-add-requires-2 t)
-    (λ c. search needs)
-    (λ c. search needs)
-    (λ c. search needs)
+    (sequence-add-least-2 t)
+    (λ c κs. search needs)
+    (sequence-loop-less-2 t)
+    (sequence-loop-again-2 t)
     (λ c. search needs)
     (sequence-returns t)
+    (λ c. search needs)
     (sequence-returns-2 t)
+    (λ c. search needs)
+    (λ c. search needs)
+    (λ c κs. search needs)
     (sequence-returns-3 t)
+    (λ c. search needs)
     (sequence-returns-4 t)
-    (sequence-returns-5 t)
-    (sequence-returns-6 t))
+    (sequence-returns-5 t))

@@ -1,0 +1,2 @@
+-- Tables filled entry by entry.
+pub mod Filling

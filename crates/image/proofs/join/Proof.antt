@@ -1,0 +1,40 @@
+-- The loop's invariant: the first i bytes are written. Assumes nothing.
+use Prim.Native.Nat.{_-_}
+use native.Mathlib.Omega.{arith}
+use lib.ListN.{length}
+use borrow.Author.Needs.{needs}
+use Rattle.ec20.specs.Memory.{memory}
+use Rattle.image.specs.Image.{imageByte}
+use Rattle.image.proofs.Filling.{Filling, filling-none, filling-more, filling-done}
+use Rattle.image.proofs.join.Statement.{statement}
+use Rattle.image.proofs.join.Tie as tie
+
+abbrev Inv-loop : tie.InvT-loop
+Inv-loop x y m sm t d tv b₀ i₀ b i = Filling 0 (length b₀) i (λ j. imageByte (memory x y m sm t d tv) j) b
+
+abbrev μ-loop : tie.MeasureT-loop
+μ-loop x y m sm t d tv b₀ i₀ b i = length b₀ - i
+
+loop-holds : tie.Need-loop-holds Inv-loop μ-loop
+loop-holds c = filling-none _ _ _
+
+loop-again : tie.Need-loop-again Inv-loop μ-loop
+loop-again c = let s = c .before .before .loop .inv in filling-more _ (omega (arith, s .size)) s (c .image-byte .ensures)
+
+returns : tie.Need-returns Inv-loop μ-loop
+returns c = let s = c .before .loop .inv in filling-done (omega (arith, s .size)) s
+
+pub join-spec : {M : Type 1} → statement M
+join-spec =
+    tie.close
+    (tie.spec
+    Inv-loop
+    μ-loop
+    loop-holds
+    (λ c κs. search needs)
+    (λ c. search needs)
+    (λ c. search needs)
+    (λ c. search needs)
+    loop-again
+    (λ c. search needs)
+    returns)

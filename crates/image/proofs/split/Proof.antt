@@ -1,0 +1,56 @@
+-- Each table as it was filled. Assumes nothing.
+use borrow.Author.Needs.{needs}
+use Rattle.image.proofs.split.Statement.{statement}
+use Rattle.image.proofs.split.Tie as tie
+
+returns : tie.Need-returns
+returns c =
+    let tv = c .before in
+    let d = tv .before .before .before .before in
+    let t = d .before .before .before .before .before in
+    let sm = t .before .before .before .before .before in
+    let m = sm .before .before .before .before .before in
+    let y = m .before .before .before .before .before in
+    let x = y .before .before .before .before .before in
+    (x .fill-bytes .ensures, (y .fill-bytes2 .ensures, (m .fill-bytes3 .ensures, (sm .fill-bytes4 .ensures, (t .fill-bytes5 .ensures, (d .fill-words .ensures, tv .fill-words2 .ensures))))))
+
+pub split-spec : {M : Type 1} → statement M
+split-spec =
+    tie.close
+    (tie.spec
+    (λ c. search needs)
+    (λ c. search needs)
+    (λ c. search needs)
+    (λ c κs. search needs)
+    (λ c. search needs)
+    (λ c. search needs)
+    (λ c. search needs)
+    (λ c κs. search needs)
+    (λ c. search needs)
+    (λ c. search needs)
+    (λ c. search needs)
+    (λ c κs. search needs)
+    (λ c. search needs)
+    (λ c. search needs)
+    (λ c. search needs)
+    (λ c κs. search needs)
+    (λ c. search needs)
+    (λ c. search needs)
+    (λ c. search needs)
+    (λ c κs. search needs)
+    (λ c. search needs)
+    (λ c. search needs)
+    (λ c. search needs)
+    (λ c κs. search needs)
+    (λ c. search needs)
+    (λ c. search needs)
+    (λ c. search needs)
+    (λ c κs. search needs)
+    (λ c. search needs)
+    (λ c. search needs)
+    (λ c. search needs)
+    (λ c. search needs)
+    (λ c. search needs)
+    (λ c. search needs)
+    (λ c. search needs)
+    returns)

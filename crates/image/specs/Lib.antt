@@ -1,0 +1,2 @@
+-- What the bytes of a memory file mean.
+pub mod Image

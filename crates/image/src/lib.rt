@@ -1,0 +1,140 @@
+// The memory as a file has it: 16,890 bytes. First the bits (X 32 bytes, Y 32, M 250, SM 32, T contacts 32), then 8,000 D words and 256 T
+// values of two bytes each, the low byte first.
+ghost use Rattle.image.specs.Image.{Filled, wordIn, byteOf, part, bitByte, imageByte};
+ghost use lib.ListN.{length};
+ghost use lib.IntN.{pos};
+ghost use mathlib.Core.Path.{_≡_};
+ghost use Rattle.ec20.specs.File.{byteAt};
+ghost use Rattle.ec20.specs.Memory.{memory};
+
+// Byte i, 0 where there is none.
+fn byte_at(b: &[u8], i: usize) -> u8
+    ensures { λ r. ⌜ r ≡ byteAt (now (b .entry)) i ⌝ }
+{
+    if i < b.len() { b[i] } else { 0 }
+}
+
+// Word i of the bytes, 0 where they are not there.
+fn word_in(b: &[u8], i: usize) -> i16
+    ensures { λ r. ⌜ r ≡ wordIn (now (b .entry)) i ⌝ }
+{
+    if i < b.len() / 2 {
+        return ints::of_bits16(records::u16_at(b, 2 * i) as u64);
+    }
+    0
+}
+
+// Byte i of the words, 0 where they are not there.
+fn byte_of(d: &[i16], i: usize) -> u8
+    ensures { λ r. ⌜ r ≡ byteOf (now (d .entry)) i ⌝ }
+{
+    let u = ints::bits(words::word_at(d, i / 2), 65536);
+    if i % 2 == 0 {
+        (u % 256) as u8
+    } else {
+        (u / 256) as u8
+    }
+}
+
+// A table of bytes from the bytes.
+fn fill_bytes(b: &[u8], to: &mut [u8])
+    ensures { λ _. ⌜ Filled 0 (length (now (to .entry))) (λ i. byteAt (now (b .entry)) i) (now (to .exit)) ⌝ }
+{
+    let mut i = 0;
+    while i < to.len() {
+        to[i] = byte_at(b, i);
+        i += 1;
+    }
+}
+
+// A table of words from the bytes.
+fn fill_words(b: &[u8], to: &mut [i16])
+    ensures { λ _. ⌜ Filled (pos 0) (length (now (to .entry))) (λ i. wordIn (now (b .entry)) i) (now (to .exit)) ⌝ }
+{
+    let mut i = 0;
+    while i < to.len() {
+        to[i] = word_in(b, i);
+        i += 1;
+    }
+}
+
+// The tables from the bytes of a memory file, each entry of each table: its own bytes, 0 past them.
+pub fn split(
+    b: &[u8],
+    x: &mut [u8],
+    y: &mut [u8],
+    m: &mut [u8],
+    sm: &mut [u8],
+    t: &mut [u8],
+    d: &mut [i16],
+    tv: &mut [i16],
+)
+    requires { ⌜ length (now b) ≡ 16890 ⌝ }
+    ensures { λ _. ⌜ Filled 0 (length (now (x .entry))) (λ i. byteAt (part 0 32 (now (b .entry))) i) (now (x .exit)) ⌝ }
+    ensures { λ _. ⌜ Filled 0 (length (now (y .entry))) (λ i. byteAt (part 32 32 (now (b .entry))) i) (now (y .exit)) ⌝ }
+    ensures { λ _. ⌜ Filled 0 (length (now (m .entry))) (λ i. byteAt (part 64 250 (now (b .entry))) i) (now (m .exit)) ⌝ }
+    ensures { λ _. ⌜ Filled 0 (length (now (sm .entry))) (λ i. byteAt (part 314 32 (now (b .entry))) i) (now (sm .exit)) ⌝ }
+    ensures { λ _. ⌜ Filled 0 (length (now (t .entry))) (λ i. byteAt (part 346 32 (now (b .entry))) i) (now (t .exit)) ⌝ }
+    ensures { λ _. ⌜ Filled (pos 0) (length (now (d .entry))) (λ i. wordIn (part 378 16000 (now (b .entry))) i) (now (d .exit)) ⌝ }
+    ensures { λ _. ⌜ Filled (pos 0) (length (now (tv .entry))) (λ i. wordIn (part 16378 512 (now (b .entry))) i) (now (tv .exit)) ⌝ }
+{
+    fill_bytes(&b[0..32], x);
+    fill_bytes(&b[32..64], y);
+    fill_bytes(&b[64..314], m);
+    fill_bytes(&b[314..346], sm);
+    fill_bytes(&b[346..378], t);
+    fill_words(&b[378..16378], d);
+    fill_words(&b[16378..16890], tv);
+}
+
+// Byte i of a memory file with these tables: the bits.
+fn bit_byte(x: &[u8], y: &[u8], m: &[u8], sm: &[u8], t: &[u8], i: usize) -> u8
+    ensures { λ r. ⌜ r ≡ bitByte (now (x .entry)) (now (y .entry)) (now (m .entry)) (now (sm .entry)) (now (t .entry)) i ⌝ }
+{
+    if i < 32 {
+        return byte_at(x, i);
+    }
+    if i < 64 {
+        return byte_at(y, i - 32);
+    }
+    if i < 314 {
+        return byte_at(m, i - 64);
+    }
+    if i < 346 {
+        return byte_at(sm, i - 314);
+    }
+    byte_at(t, i - 346)
+}
+
+// The same of all tables.
+fn image_byte(
+    x: &[u8],
+    y: &[u8],
+    m: &[u8],
+    sm: &[u8],
+    t: &[u8],
+    d: &[i16],
+    tv: &[i16],
+    i: usize,
+) -> u8
+    ensures { λ r. ⌜ r ≡ imageByte (memory (now (x .entry)) (now (y .entry)) (now (m .entry)) (now (sm .entry)) (now (t .entry)) (now (d .entry)) (now (tv .entry))) i ⌝ }
+{
+    if i < 378 {
+        return bit_byte(x, y, m, sm, t, i);
+    }
+    if i < 16378 {
+        return byte_of(d, i - 378);
+    }
+    byte_of(tv, i - 16378)
+}
+
+// The bytes of a memory file from the tables. What a table lacks is 0.
+pub fn join(x: &[u8], y: &[u8], m: &[u8], sm: &[u8], t: &[u8], d: &[i16], tv: &[i16], b: &mut [u8])
+    ensures { λ _. ⌜ Filled 0 (length (now (b .entry))) (λ i. imageByte (memory (now (x .entry)) (now (y .entry)) (now (m .entry)) (now (sm .entry)) (now (t .entry)) (now (d .entry)) (now (tv .entry))) i) (now (b .exit)) ⌝ }
+{
+    let mut i = 0;
+    while i < b.len() {
+        b[i] = image_byte(x, y, m, sm, t, d, tv, i);
+        i += 1;
+    }
+}

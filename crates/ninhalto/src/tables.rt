@@ -1,0 +1,43 @@
+// Zeros for the tables of the memory and for its file. Each tells its length alone, so that no proof writes the zeros out.
+ghost use lib.ListN.{length};
+ghost use mathlib.Core.Path.{_≡_};
+
+pub fn image() -> [u8; 16890]
+    ensures { λ r. ⌜ 16890 ≡ length r ⌝ }
+{
+    [0; 16890]
+}
+
+// X, Y, SM and T contacts.
+pub fn bits() -> [u8; 32]
+    ensures { λ r. ⌜ 32 ≡ length r ⌝ }
+{
+    [0; 32]
+}
+
+pub fn m_bits() -> [u8; 250]
+    ensures { λ r. ⌜ 250 ≡ length r ⌝ }
+{
+    [0; 250]
+}
+
+pub fn d_words() -> [i16; 8000]
+    ensures { λ r. ⌜ 8000 ≡ length r ⌝ }
+{
+    [0; 8000]
+}
+
+pub fn t_values() -> [i16; 256]
+    ensures { λ r. ⌜ 256 ≡ length r ⌝ }
+{
+    [0; 256]
+}
+
+// A memory file as it was read: the bytes at the start of the buffer.
+pub fn start(buf: &[u8; 65536], image: &mut [u8; 16890]) {
+    let mut i: usize = 0;
+    while i < 16890 {
+        image[i] = buf[i];
+        i += 1;
+    }
+}

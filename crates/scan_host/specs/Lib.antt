@@ -1,0 +1,2 @@
+-- What the seven numbers tell.
+pub mod Seven

@@ -1,0 +1,28 @@
+-- What is left of the bytes falls. Assumes nothing.
+use Prim.Native.Nat.{_≤_, _-_}
+use borrow.Author.Needs.{needs}
+use Rattle.vectors_scans.proofs.case.checksum.Statement.{statement}
+use Rattle.vectors_scans.proofs.case.checksum.Tie as tie
+
+abbrev Inv-loop : tie.InvT-loop
+Inv-loop b one₀ two₀ i₀ one two i = i ≤ 16890
+
+abbrev μ-loop : tie.MeasureT-loop
+μ-loop b one₀ two₀ i₀ one two i = 16890 - i
+
+pub checksum-spec : {M : Type 1} → statement M
+checksum-spec =
+    tie.close
+    (tie.spec
+    Inv-loop
+    μ-loop
+    (λ c. search needs)
+    (λ c. search needs)
+    (λ c κs. search needs)
+    (λ c κs. search needs)
+    (λ c κs. search needs)
+    (λ c. search needs)
+    (λ c. search needs)
+    (λ c. search needs)
+    (λ c κs. search needs)
+    (λ c. search needs))

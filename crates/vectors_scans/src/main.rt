@@ -1,0 +1,65 @@
+// Runs the scan on the cases of scans.bin and compares its answers, and the memory that it leaves, with those that stand there, which
+// another implementation gave. The format is in reference/FORMAT.md, "Scans".
+mod before;
+mod case;
+mod counts;
+mod judge;
+mod lent;
+mod reading;
+mod tables;
+mod told;
+
+// How many cases the file says that there are; none where it has another head.
+fn cases(fd: i32) -> usize {
+    let mut h = [0u8; 12];
+    let got = io::read_full(fd, &mut h);
+    let named = (h[0] == b'N') & (h[1] == b'H') & (h[2] == b'V') & (h[3] == b'1');
+    if named & (got == 12) & (records::u32_at(&h, 4) == 3) {
+        return records::u32_at(&h, 8);
+    }
+    0
+}
+
+// The n cases. The file and the image are those of the case before, where a case says so.
+fn section(
+    fd: i32,
+    n: usize,
+    file: &mut [u8; 65536],
+    image: &mut [u8; 16890],
+    met: &mut [usize; 18],
+) {
+    let mut i: usize = 0;
+    let mut differ: usize = 0;
+    let mut size: usize = 0;
+    while i < n {
+        size = case::file_field(fd, file, size);
+        let c = case::next(fd, file, size, image);
+        counts::add(met, c);
+        if !c.agrees {
+            told::differs(i, differ);
+            differ += 1;
+        }
+        i += 1;
+    }
+    told::total(i - differ, differ);
+}
+
+fn run(fd: i32, n: usize) {
+    let mut file = io::large_buffer();
+    let mut image = tables::image();
+    let mut met = [0usize; 18];
+    section(fd, n, &mut file, &mut image, &mut met);
+    told::counts(&met);
+    told::ended(reading::at_end(fd));
+}
+
+fn main() {
+    let name = b"scans.bin";
+    let fd = os::open_read(name);
+    if fd < 0 {
+        os::fail(name);
+        return;
+    }
+    run(fd, cases(fd));
+    libc::close(fd);
+}
