@@ -37,7 +37,7 @@ fn size(a: Asked, table: u8, full: usize, most: usize) -> usize
     least(full, most)
 }
 
-// The tables as they are lent.
+// The call itself, over the tables as they are lent.
 fn call(
     f: &[u8],
     a: Asked,
