@@ -1,13 +1,17 @@
 // Labels and jumps, refusal 7; and the two searches, for the NEXT of a FOR and for a label.
-ghost use Prim.Native.Nat.{_+_, _<_, _^_};
+ghost use Prim.Native.Nat.{ℕ, _+_, _-_, _<_, _≤_, _^_};
+ghost use Rattle.ec20.specs.Basics.{firstAt, refusedAt};
 ghost use Rattle.ec20.specs.Code.{programIn};
 ghost use Rattle.ec20.specs.Control.{controlsOf, turnOf, marks, findFrom, labelOf};
 ghost use Rattle.ec20.specs.File.{recordsFrom};
 ghost use Rattle.ec20.specs.Labels.{same, labelFault, firstUnlabelled};
 ghost use Rattle.ec20.specs.declared.Control.the-variants.{Closes, Jumps, Marks};
+ghost use Rattle.labels.specs.Places.{Places};
 ghost use Rattle.labels.specs.Want.{wantOf};
 ghost use Rattle.records.specs.Ranges.{Held};
+ghost use lib.Dec.{eqb};
 ghost use lib.ListN.{length};
+ghost use mathlib.Core.Bool.{false};
 ghost use mathlib.Core.Path.{_≡_};
 use ec20::Control;
 use ec20::Found;
@@ -126,30 +130,80 @@ fn alike(a: Found, b: Found) -> bool
     }
 }
 
-// A CJ's label, its first LBL, must stand later and directly in the same loop body, in no loop inside it.
-fn misplaced(f: &[u8], first: usize, count: usize, k: usize, l: usize) -> bool
+// The label that record k sets, as the table's entry: 128 where it sets none of the 128 labels.
+fn slot(f: &[u8], first: usize, count: usize, k: usize) -> usize
     requires { ⌜ Held (length (now f)) first count ⌝ }
+    ensures { λ r. ⌜ (r ≤ 128) × ((l : ℕ) → l < 128 → marks l ((controlsOf (programIn (recordsFrom (now (f .entry)) first count))) k) ≡ eqb r l) ⌝ }
+{
+    match decode::control_at(f, first, count, k) {
+        Control::Plain => 128,
+        Control::Opens(_) => 128,
+        Control::Closes => 128,
+        Control::Jumps(_) => 128,
+        Control::Marks(l) => { if l < 128 { l } else { 128 } }
+        Control::Ends => 128,
+    }
+}
+
+// One more than the place of each of the 128 labels, 0 where it has none: from the last record back, so that the first LBL stays.
+fn places(f: &[u8], first: usize, count: usize) -> [usize; 129]
+    requires { ⌜ Held (length (now f)) first count ⌝ }
+    ensures { λ r. ⌜ Places (controlsOf (programIn (recordsFrom (now (f .entry)) first count))) count r ⌝ }
+{
+    let mut table = [0usize; 129];
+    let mut k = count;
+    while 0 < k {
+        let j = k - 1;
+        let s = slot(f, first, count, j);
+        table[s] = k;
+        k = j;
+    }
+    table
+}
+
+// A label's place: that of the first 128 is looked up, any other's is searched.
+fn place(f: &[u8], first: usize, count: usize, table: &[usize; 129], l: usize) -> Found
+    requires { ⌜ Held (length (now f)) first count ⌝ }
+    requires { ⌜ Places (controlsOf (programIn (recordsFrom (now f) first count))) count (now table) ⌝ }
+    ensures { λ r. ⌜ r ≡ labelOf (controlsOf (programIn (recordsFrom (now (f .entry)) first count))) count l ⌝ }
+{
+    if l < 128 {
+        let t = table[l];
+        if t == 0 {
+            return Found::Nowhere;
+        }
+        return Found::At(t - 1);
+    }
+    label(f, first, count, l)
+}
+
+// A CJ's label, its first LBL, must stand later and directly in the same loop body, in no loop inside it.
+fn misplaced(f: &[u8], first: usize, count: usize, table: &[usize; 129], k: usize, l: usize) -> bool
+    requires { ⌜ Held (length (now f)) first count ⌝ }
+    requires { ⌜ Places (controlsOf (programIn (recordsFrom (now f) first count))) count (now table) ⌝ }
     requires { ⌜ k < count ⌝ }
     ensures { λ r. ⌜ r ≡ labelFault (controlsOf (programIn (recordsFrom (now (f .entry)) first count))) count k (Jumps l) ⌝ }
 {
     let from = k + 1;
     !alike(
-        label(f, first, count, l),
+        place(f, first, count, table, l),
         find(f, first, count, from, Want::Place(l)),
     )
 }
 
 // A label set twice: the later LBL is not the first of its label.
-fn set_twice(f: &[u8], first: usize, count: usize, k: usize, l: usize) -> bool
+fn set_twice(f: &[u8], first: usize, count: usize, table: &[usize; 129], k: usize, l: usize) -> bool
     requires { ⌜ Held (length (now f)) first count ⌝ }
+    requires { ⌜ Places (controlsOf (programIn (recordsFrom (now f) first count))) count (now table) ⌝ }
     ensures { λ r. ⌜ r ≡ labelFault (controlsOf (programIn (recordsFrom (now (f .entry)) first count))) count k (Marks l) ⌝ }
 {
-    !alike(label(f, first, count, l), Found::At(k))
+    !alike(place(f, first, count, table, l), Found::At(k))
 }
 
 // Does record k set a label twice, or jump to one that doesn't stand where it must?
-fn label_fault(f: &[u8], first: usize, count: usize, k: usize) -> bool
+fn label_fault(f: &[u8], first: usize, count: usize, table: &[usize; 129], k: usize) -> bool
     requires { ⌜ Held (length (now f)) first count ⌝ }
+    requires { ⌜ Places (controlsOf (programIn (recordsFrom (now f) first count))) count (now table) ⌝ }
     requires { ⌜ k < count ⌝ }
     ensures { λ r. ⌜ r ≡ labelFault (controlsOf (programIn (recordsFrom (now (f .entry)) first count))) count k (controlsOf (programIn (recordsFrom (now (f .entry)) first count)) k) ⌝ }
 {
@@ -157,23 +211,67 @@ fn label_fault(f: &[u8], first: usize, count: usize, k: usize) -> bool
         Control::Plain => false,
         Control::Opens(_) => false,
         Control::Closes => false,
-        Control::Jumps(l) => misplaced(f, first, count, k, l),
-        Control::Marks(l) => set_twice(f, first, count, k, l),
+        Control::Jumps(l) => misplaced(f, first, count, table, k, l),
+        Control::Marks(l) => set_twice(f, first, count, table, k, l),
         Control::Ends => false,
     }
 }
 
-// The first such record.
+// Does record k set a label or jump to one? Any other is not refused.
+fn labelled(f: &[u8], first: usize, count: usize, k: usize) -> bool
+    requires { ⌜ Held (length (now f)) first count ⌝ }
+    ensures { λ r. ⌜ (r ≡ false → false ≡ labelFault (controlsOf (programIn (recordsFrom (now (f .entry)) first count))) count k ((controlsOf (programIn (recordsFrom (now (f .entry)) first count))) k)) ⌝ }
+{
+    match decode::control_at(f, first, count, k) {
+        Control::Plain => false,
+        Control::Opens(_) => false,
+        Control::Closes => false,
+        Control::Jumps(_) => true,
+        Control::Marks(_) => true,
+        Control::Ends => false,
+    }
+}
+
+// The first record that sets a label or jumps to one, past the program if there is none: the judgement from there is the whole judgement.
+fn first_labelled(f: &[u8], first: usize, count: usize) -> usize
+    requires { ⌜ Held (length (now f)) first count ⌝ }
+    ensures { λ r. ⌜ firstUnlabelled (controlsOf (programIn (recordsFrom (now (f .entry)) first count))) count ≡ refusedAt 7 (firstAt (λ j. labelFault (controlsOf (programIn (recordsFrom (now (f .entry)) first count))) count j ((controlsOf (programIn (recordsFrom (now (f .entry)) first count))) j)) (count - r) r) ⌝ }
+{
+    let mut k = 0;
+    while k < count {
+        if labelled(f, first, count, k) {
+            return k;
+        }
+        k += 1;
+    }
+    k
+}
+
+// The first record from `from` on that is refused, the labels' places being known.
+fn first_from(f: &[u8], first: usize, count: usize, table: &[usize; 129], from: usize) -> Judged
+    requires { ⌜ Held (length (now f)) first count ⌝ }
+    requires { ⌜ Places (controlsOf (programIn (recordsFrom (now f) first count))) count (now table) ⌝ }
+    ensures { λ r. ⌜ r ≡ refusedAt 7 (firstAt (λ j. labelFault (controlsOf (programIn (recordsFrom (now (f .entry)) first count))) count j ((controlsOf (programIn (recordsFrom (now (f .entry)) first count))) j)) (count - from) from) ⌝ }
+{
+    let mut k = from;
+    while k < count {
+        if label_fault(f, first, count, table, k) {
+            return Judged::Fault(7, k);
+        }
+        k += 1;
+    }
+    Judged::Fine
+}
+
+// The first such record. The places of the labels are looked for only where a record sets a label or jumps to one.
 pub fn first_unlabelled(f: &[u8], first: usize, count: usize) -> Judged
     requires { ⌜ Held (length (now f)) first count ⌝ }
     ensures { λ r. ⌜ r ≡ firstUnlabelled (controlsOf (programIn (recordsFrom (now (f .entry)) first count))) count ⌝ }
 {
-    let mut k = 0;
-    while k < count {
-        if label_fault(f, first, count, k) {
-            return Judged::Fault(7, k);
-        }
-        k += 1;
+    let from = first_labelled(f, first, count);
+    if from < count {
+        let table = places(f, first, count);
+        return first_from(f, first, count, &table, from);
     }
     Judged::Fine
 }
