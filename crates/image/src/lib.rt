@@ -25,7 +25,7 @@ fn word_in(b: &[u8], i: usize) -> i16
 }
 
 // Byte i of the words, 0 where they are not there.
-fn byte_of(d: &[i16], i: usize) -> u8
+pub fn byte_of(d: &[i16], i: usize) -> u8
     ensures { λ r. ⌜ r ≡ byteOf (now (d .entry)) i ⌝ }
 {
     let u = ints::bits(words::word_at(d, i / 2), 65536);
@@ -48,7 +48,7 @@ fn fill_bytes(b: &[u8], to: &mut [u8])
 }
 
 // A table of words from the bytes.
-fn fill_words(b: &[u8], to: &mut [i16])
+pub fn fill_words(b: &[u8], to: &mut [i16])
     ensures { λ _. ⌜ Filled (pos 0) (length (now (to .entry))) (λ i. wordIn (now (b .entry)) i) (now (to .exit)) ⌝ }
 {
     let mut i = 0;

@@ -1,0 +1,35 @@
+-- What is left of the words falls. Assumes nothing.
+use Prim.Native.Nat.{_≤_, _-_}
+use mathlib.Core.Path.{_≡_}
+use lib.ListN.{length}
+use borrow.Author.Needs.{needs}
+use Rattle.cases.proofs.drawing.draw_words.Statement.{statement}
+use Rattle.cases.proofs.drawing.draw_words.Tie as tie
+
+abbrev Inv-loop : tie.InvT-loop
+Inv-loop b₀ first rule seed n at₀ x₀ i₀ b at x i = (i ≤ n) × (length b ≡ length b₀)
+
+abbrev μ-loop : tie.MeasureT-loop
+μ-loop b₀ first rule seed n at₀ x₀ i₀ b at x i = n - i
+
+pub draw-words-spec : {M : Type 1} → statement M
+draw-words-spec =
+    tie.close
+    (tie.spec
+    Inv-loop
+    μ-loop
+    (λ c. search needs)
+    (λ c κs. search needs)
+    (λ c κs. search needs)
+    (λ c κs. search needs)
+    (λ c. search needs)
+    (λ c κs. search needs)
+    (λ c κs. search needs)
+    (λ c. search needs)
+    (λ c κs. search needs)
+    (λ c κs. search needs)
+    (λ c. search needs)
+    (λ c. search needs)
+    (λ c. search needs)
+    (λ c. search needs)
+    (λ c. search needs))

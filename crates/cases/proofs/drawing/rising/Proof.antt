@@ -1,0 +1,28 @@
+-- What is left of the bytes falls. Assumes nothing.
+use Prim.Native.Nat.{_≤_, _-_}
+use mathlib.Core.Path.{_≡_}
+use lib.ListN.{length}
+use borrow.Author.Needs.{needs}
+use Rattle.cases.proofs.drawing.rising.Statement.{statement}
+use Rattle.cases.proofs.drawing.rising.Tie as tie
+
+abbrev Inv-loop : tie.InvT-loop
+Inv-loop b₀ first by n v₀ i₀ b v i = (i ≤ n) × (length b ≡ length b₀)
+
+abbrev μ-loop : tie.MeasureT-loop
+μ-loop b₀ first by n v₀ i₀ b v i = n - i
+
+pub rising-spec : {M : Type 1} → statement M
+rising-spec =
+    tie.close
+    (tie.spec
+    Inv-loop
+    μ-loop
+    (λ c. search needs)
+    (λ c κs. search needs)
+    (λ c κs. search needs)
+    (λ c. search needs)
+    (λ c. search needs)
+    (λ c. search needs)
+    (λ c. search needs)
+    (λ c. search needs))
