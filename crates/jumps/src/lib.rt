@@ -6,6 +6,7 @@ ghost use Rattle.ec20.specs.File.{recordsFrom};
 ghost use Rattle.ec20.specs.Memory.{Memory};
 ghost use Rattle.ec20.specs.Step.{world, forOf, closeOf, jumpOf};
 ghost use Rattle.ec20.specs.declared.Control.the-variants.{Opens};
+ghost use Rattle.labels.specs.Places.{Places};
 ghost use Rattle.records.specs.Ranges.{Held};
 ghost use lib.ListN.{getD, length};
 ghost use mathlib.Core.Path.{_≡_};
@@ -137,17 +138,27 @@ pub fn next_places(f: &[u8], first: usize, count: usize) -> [usize; 2000]
     nexts
 }
 
-// The same of each of the 128 labels: its place, past the program if there is none.
-pub fn label_places(f: &[u8], first: usize, count: usize) -> [usize; 128]
+// The places of the 128 labels as a run looks them up, from those that one walk over the records found.
+fn looked_up(table: &[usize; 129], f: &[u8], first: usize, count: usize) -> [usize; 128]
     requires { ⌜ Held (length (now f)) first count ⌝ }
+    requires { ⌜ Places (controlsOf (programIn (recordsFrom (now f) first count))) count (now table) ⌝ }
     ensures { λ r. ⌜ ((l : ℕ) → l < 128 → getD r l 0 ≡ orPast count (labelOf (controlsOf (programIn (recordsFrom (now (f .entry)) first count))) count l)) ⌝ }
 {
     let mut places = [0usize; 128];
     let mut l = 0;
     while l < 128 {
-        let v = or_past(count, labels::label(f, first, count, l));
+        let v = or_past(count, labels::place(f, first, count, table, l));
         places[l] = v;
         l += 1;
     }
     places
+}
+
+// The same of each of the 128 labels: its place, past the program if there is none.
+pub fn label_places(f: &[u8], first: usize, count: usize) -> [usize; 128]
+    requires { ⌜ Held (length (now f)) first count ⌝ }
+    ensures { λ r. ⌜ ((l : ℕ) → l < 128 → getD r l 0 ≡ orPast count (labelOf (controlsOf (programIn (recordsFrom (now (f .entry)) first count))) count l)) ⌝ }
+{
+    let table = labels::places(f, first, count);
+    looked_up(&table, f, first, count)
 }

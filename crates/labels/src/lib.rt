@@ -146,7 +146,7 @@ fn slot(f: &[u8], first: usize, count: usize, k: usize) -> usize
 }
 
 // One more than the place of each of the 128 labels, 0 where it has none: from the last record back, so that the first LBL stays.
-fn places(f: &[u8], first: usize, count: usize) -> [usize; 129]
+pub fn places(f: &[u8], first: usize, count: usize) -> [usize; 129]
     requires { ⌜ Held (length (now f)) first count ⌝ }
     ensures { λ r. ⌜ Places (controlsOf (programIn (recordsFrom (now (f .entry)) first count))) count r ⌝ }
 {
@@ -162,7 +162,7 @@ fn places(f: &[u8], first: usize, count: usize) -> [usize; 129]
 }
 
 // A label's place: that of the first 128 is looked up, any other's is searched.
-fn place(f: &[u8], first: usize, count: usize, table: &[usize; 129], l: usize) -> Found
+pub fn place(f: &[u8], first: usize, count: usize, table: &[usize; 129], l: usize) -> Found
     requires { ⌜ Held (length (now f)) first count ⌝ }
     requires { ⌜ Places (controlsOf (programIn (recordsFrom (now f) first count))) count (now table) ⌝ }
     ensures { λ r. ⌜ r ≡ labelOf (controlsOf (programIn (recordsFrom (now (f .entry)) first count))) count l ⌝ }
