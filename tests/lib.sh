@@ -75,11 +75,11 @@ refused_programs() {
 
 # reason 'refused NUMBER record RECORD': the line on standard error tells the number, and the record where the number has one.
 reason() {
-    number=${1#refused } record=${1##* }
-    number=${number%% *}
-    case $number in
-    [2-7] | 13) told=": refusal $number at record $record (" ;;
-    *) told=": refusal $number: " ;;
+    refusal=${1#refused } told_record=${1##* }
+    refusal=${refusal%% *}
+    case $refusal in
+    [2-7] | 13) told=": refusal $refusal at record $told_record (" ;;
+    *) told=": refusal $refusal: " ;;
     esac
     grep -qF "$told" "$room/said-err" || why="$why; no '$told' on standard error"
 }
@@ -139,50 +139,50 @@ same() {
 
 # replaced OUTPUT BEFORE AFTER COMMAND ARGUMENTS..: how the file that a command changes is replaced. It is the first argument.
 replaced() {
-    line=$1 before=$2 after=$3 command=$4
+    answer=$1 old=$2 new=$3 command=$4
     shift 4
     # A file whose folder cannot be written stays as it is. (To root nothing is locked.)
-    cp "$room/$before" "$room/locked/it"
+    cp "$room/$old" "$room/locked/it"
     chmod a-w "$room/locked"
     if [ "$(id -u)" != 0 ]; then
         tried 2 '' "$ninhalto" "$command" locked/it "$@"
-        same 'a file in a locked folder' '' "$(cmp "$room/$before" "$room/locked/it")"
-        cp "$room/$before" "$room/it"
+        same 'a file in a locked folder' '' "$(cmp "$room/$old" "$room/locked/it")"
+        cp "$room/$old" "$room/it"
         chmod 0 "$room/it"
         tried 2 '' "$ninhalto" "$command" it "$@"
         chmod 600 "$room/it"
-        same 'a file that cannot be read' '' "$(cmp "$room/$before" "$room/it")"
+        same 'a file that cannot be read' '' "$(cmp "$room/$old" "$room/it")"
     fi
     chmod u+w "$room/locked"
     rm -f "$room/locked/it"
     # The mode stays.
     for mode in 600 644 666 400; do
         rm -f "$room/it"
-        cp "$room/$before" "$room/it"
+        cp "$room/$old" "$room/it"
         chmod $mode "$room/it"
-        tried 0 "$line" "$ninhalto" "$command" it "$@"
+        tried 0 "$answer" "$ninhalto" "$command" it "$@"
         same "mode $mode" $mode "$(stat -c %a "$room/it")"
     done
     # A link stays a link, and another name of the old file keeps the old bytes.
     rm -f "$room/it"
-    cp "$room/$before" "$room/it"
+    cp "$room/$old" "$room/it"
     ln -s ../it "$room/folder/link"
     ln "$room/it" "$room/other-name"
-    tried 0 "$line" "$ninhalto" "$command" folder/link "$@"
-    same 'through a link' '' "$(cmp "$room/it" "$room/$after")"
+    tried 0 "$answer" "$ninhalto" "$command" folder/link "$@"
+    same 'through a link' '' "$(cmp "$room/it" "$room/$new")"
     same 'the link' ../it "$(readlink "$room/folder/link")"
-    same 'the old file by its other name' '' "$(cmp "$room/$before" "$room/other-name")"
+    same 'the old file by its other name' '' "$(cmp "$room/$old" "$room/other-name")"
     ln -s nowhere "$room/folder/broken"
     tried 2 '' "$ninhalto" "$command" folder/broken "$@"
     rm -f "$room/folder/link" "$room/folder/broken"
     # Names with spaces, and like an option.
-    cp "$room/$before" "$room/a name with spaces"
-    tried 0 "$line" "$ninhalto" "$command" 'a name with spaces' "$@"
-    same 'a name with spaces' '' "$(cmp "$room/a name with spaces" "$room/$after")"
-    cp "$room/$before" "$room/folder/-f"
+    cp "$room/$old" "$room/a name with spaces"
+    tried 0 "$answer" "$ninhalto" "$command" 'a name with spaces' "$@"
+    same 'a name with spaces' '' "$(cmp "$room/a name with spaces" "$room/$new")"
+    cp "$room/$old" "$room/folder/-f"
     # shellcheck disable=SC2016
-    tried 0 "$line" sh -c 'cd folder && n=$0 && c=$1 && shift && "$n" "$c" -f "$@"' "$ninhalto" "$command" "$@"
-    same 'a name that looks like an option' '' "$(cmp "$room/folder/-f" "$room/$after")"
+    tried 0 "$answer" sh -c 'cd folder && n=$0 && c=$1 && shift && "$n" "$c" -f "$@"' "$ninhalto" "$command" "$@"
+    same 'a name that looks like an option' '' "$(cmp "$room/folder/-f" "$room/$new")"
     rm -f "$room/folder/-f"
     # What is no regular file, or is not there.
     for wrong in missing folder '' /dev/null; do tried 2 '' "$ninhalto" "$command" "$wrong" "$@"; done
