@@ -190,6 +190,7 @@ replaced() {
 }
 
 # Words that are no unsigned 32-bit number.
+# shellcheck disable=SC2034
 no_numbers='x 1x x1 -1 +1 0x10 1.5 1e3 4294967296 18446744073709551616 99999999999999999999999999999999'
 
 finish() {
