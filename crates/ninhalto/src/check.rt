@@ -6,7 +6,7 @@ use ec20::Verdict;
 fn judge(file: &[u8]) {
     match checker::check(file) {
         Verdict::Accepted { records, steps } => report::accepted(records, steps),
-        Verdict::Refused { number, record } => report::refused(2, number, record),
+        Verdict::Refused { number, record } => report::refused(2, file, number, record),
     }
 }
 

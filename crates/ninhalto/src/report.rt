@@ -1,4 +1,5 @@
 // What is printed: an answer or a refusal on standard output, and the reason on standard error.
+use crate::names;
 use crate::words;
 use ec20::Report;
 use libc::STDERR_FILENO;
@@ -41,32 +42,57 @@ fn say_word(fd: i32, i: usize) {
     say(fd, &text[..n]);
 }
 
-// Why, in words: the file that word `file` of the call names, the number, the record if one is told, and what the number means.
-fn reason(file: usize, number: usize, record: usize) {
-    say_word(STDERR_FILENO, file);
+// The file that word `word` of the call names, and the number.
+fn head(word: usize, number: usize) {
+    say_word(STDERR_FILENO, word);
     say(STDERR_FILENO, b": refusal ");
     say_number(STDERR_FILENO, number);
+}
+
+// The record, if one is told, with its instruction's name.
+fn place(file: &[u8], number: usize, record: usize) {
     if words::tells_record(number) {
         say(STDERR_FILENO, b" at record ");
         say_number(STDERR_FILENO, record);
+        names::say_name(STDERR_FILENO, file, record);
     }
-    say(STDERR_FILENO, b": ");
-    words::meaning(STDERR_FILENO, number);
-    say(STDERR_FILENO, b"\n");
 }
 
-pub fn refused(file: usize, number: usize, record: usize) {
+fn answer(number: usize, record: usize) {
     say(STDOUT_FILENO, b"refused ");
     say_number(STDOUT_FILENO, number);
     say(STDOUT_FILENO, b" record ");
     say_number(STDOUT_FILENO, record);
     say(STDOUT_FILENO, b"\n");
-    reason(file, number, record);
+}
+
+// word: which word of the call names the file that is told; file: the program file, in which the record stands.
+pub fn refused(word: usize, file: &[u8], number: usize, record: usize) {
+    answer(number, record);
+    head(word, number);
+    place(file, number, record);
+    say(STDERR_FILENO, b": ");
+    words::meaning(STDERR_FILENO, number);
+    say(STDERR_FILENO, b"\n");
+}
+
+// The place of an exchange is named in the call, so that its 14 means another thing.
+pub fn refused_exchange(word: usize, number: usize, record: usize) {
+    answer(number, record);
+    head(word, number);
+    say(STDERR_FILENO, b": ");
+    words::meaning_exchange(STDERR_FILENO, number);
+    say(STDERR_FILENO, b"\n");
+}
+
+// The line before a map, which may have none. The script takes it away: it tells an empty map from a call that was not tried.
+pub fn mapped() {
+    say(STDOUT_FILENO, b"mapped\n");
 }
 
 pub fn usage() {
     say(
         STDERR_FILENO,
-        b"usage: ninhalto check FILE, or ninhalto scan FILE MEMORY ELAPSED [BUDGET]\n",
+        b"usage: ninhalto check FILE, map [--picture] FILE, scan FILE MEMORY ELAPSED [BUDGET], move FILE START LENGTH POOLSTART POOLEND, exchange MEMORY START LENGTH PLACE, or help\n",
     );
 }

@@ -74,7 +74,7 @@ fn scan(f: &[u8], a: Asked, image: &mut [u8; 16890], size: usize) -> Scanned {
 }
 
 // The answer is told once the memory file is replaced. 1 to 8 are told of the program file, 9 of the call.
-fn tell(s: Scanned, image: &[u8; 16890]) {
+fn tell(f: &[u8], s: Scanned, image: &[u8; 16890]) {
     match s {
         Scanned::Ended(r) => {
             if files::replace_word(3, image) {
@@ -88,9 +88,9 @@ fn tell(s: Scanned, image: &[u8; 16890]) {
         }
         Scanned::Refused { number, record } => {
             if number < 9 {
-                report::refused(2, number, record);
+                report::refused(2, f, number, record);
             } else {
-                report::refused(3, number, record);
+                report::refused(3, f, number, record);
             }
         }
     }
@@ -101,7 +101,7 @@ fn run_loaded(f: &[u8], memory: &[u8; 65536], size: usize, a: Asked) {
     let mut image = tables::image();
     tables::start(memory, &mut image);
     let s = scan(f, a, &mut image, size);
-    tell(s, &image);
+    tell(f, s, &image);
 }
 
 fn run_files(a: Asked) {

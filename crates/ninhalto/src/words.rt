@@ -60,3 +60,15 @@ pub fn meaning(fd: i32, number: usize) {
         of_call(fd, number);
     }
 }
+
+// Of an exchange, which takes no elapsed units and looks for no place.
+pub fn meaning_exchange(fd: i32, number: usize) {
+    match number {
+        9 => say(fd, b"the memory file is not 16890 bytes long"),
+        14 => say(
+            fd,
+            b"the place is not inside D0 to D7999, meets the block, or meets WORK, D7900 to D7999",
+        ),
+        _ => meaning(fd, number),
+    }
+}
