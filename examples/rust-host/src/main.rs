@@ -77,7 +77,8 @@ fn print_runs(map: &UseMap) {
     let mut from = BLOCK;
     while from < BLOCK + LENGTH {
         let here = marks(map, from);
-        let end = (from..BLOCK + LENGTH).find(|&word| marks(map, word) != here).unwrap_or(BLOCK + LENGTH);
+        let end =
+            (from..BLOCK + LENGTH).find(|&word| marks(map, word) != here).unwrap_or(BLOCK + LENGTH);
         if !here.is_empty() {
             println!("D{from} to D{} {here}", end - 1);
         }
@@ -100,8 +101,15 @@ fn main() -> Result<(), Refusal> {
     let file = compose();
     check(&file[..file.len() - 1]);
     check(&file);
-    let mut before =
-        Memory { x: [0; 32], y: [0; 32], m: [0; 250], sm: [0; 32], t: [0; 32], d: [0; 8000], tv: [0; 256] };
+    let mut before = Memory {
+        x: [0; 32],
+        y: [0; 32],
+        m: [0; 250],
+        sm: [0; 32],
+        t: [0; 32],
+        d: [0; 8000],
+        tv: [0; 256],
+    };
     before.d[BLOCK as usize] = 41;
     before.d[POOL as usize] = 77;
     let (mut moved, mut after) = (file.clone(), before.clone());

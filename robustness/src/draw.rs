@@ -1,0 +1,61 @@
+//! What is drawn for one turn: a file, mostly damaged, a memory, a block, a pool and a place.
+
+use ninhalto_reference::compose;
+use ninhalto_reference::generate::blocks::{cutting, dense, into_gap, likely, no_place, wrong};
+use ninhalto_reference::generate::faults::{aimed, aimed_twice};
+use ninhalto_reference::generate::files::{broken_frame, damaged, garbage};
+use ninhalto_reference::generate::memories;
+use ninhalto_reference::generate::program::{small, Made};
+use ninhalto_reference::generate::rng::Rng;
+use ninhalto_reference::memory::Memory;
+use ninhalto_reference::mover::{Block, Pool};
+
+pub struct Drawn {
+    pub file: Vec<u8>,
+    pub memory: Memory,
+    pub elapsed: u32,
+    pub budget: u32,
+    pub block: Block,
+    pub pool: Pool,
+    pub place: u32,
+}
+
+/// Seven of eight turns damage a file in some way; the eighth leaves it whole.
+fn file(rng: &mut Rng, made: &Made, turn: usize) -> Vec<u8> {
+    match turn % 8 {
+        0 => garbage(rng),
+        1 => broken_frame(rng, &made.records, turn / 8),
+        2 => compose::file(&aimed(rng, turn as u32 / 8 % 7 + 2, turn / 56).records),
+        3 => compose::file(&aimed_twice(rng, turn / 8).records),
+        7 => compose::file(&made.records),
+        _ => damaged(rng, &made.records),
+    }
+}
+
+/// One memory in eight has a table of a wrong size.
+fn memory(rng: &mut Rng, made: &Made) -> Memory {
+    let spec = memories::memory(rng, &made.records);
+    let mut memory = spec.lend(&spec.image(&[]));
+    match rng.below(32) {
+        0 => memory.d.truncate(rng.below(8000) as usize),
+        1 => memory.m.push(0),
+        2 => memory.t.clear(),
+        3 => drop(memory.y.pop()),
+        _ => (),
+    }
+    memory
+}
+
+pub fn draw(rng: &mut Rng, turn: usize) -> Drawn {
+    let made = if rng.once_in(2) { dense(rng) } else { small(rng) };
+    let file = file(rng, &made, turn);
+    let memory = memory(rng, &made);
+    let (block, pool) = rng.pick(&[likely, likely, into_gap, cutting, no_place, wrong])(rng, &made);
+    let elapsed =
+        if rng.once_in(16) { rng.pick(&[32768, u32::MAX]) } else { memories::elapsed(rng) };
+    let budget = rng.pick(&[0, 1, 5, 30, 200, 30_000, u32::MAX]);
+    let near = block.start.wrapping_add(rng.below(20));
+    let anywhere = rng.below(8100);
+    let place = rng.pick(&[near, anywhere, anywhere, u32::MAX]);
+    Drawn { file, memory, elapsed, budget, block, pool, place }
+}

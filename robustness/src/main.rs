@@ -1,0 +1,135 @@
+//! robustness SEED COUNT: the proved library and the reference on COUNT files, most of them damaged; every number, table and byte of the six
+//! functions is compared. A difference, or a write past a lent part, stops the run.
+
+mod draw;
+mod lent;
+mod proved;
+
+use draw::{draw, Drawn};
+use ninhalto_reference::generate::rng::Rng;
+use ninhalto_reference::memory::Memory;
+use ninhalto_reference::refusal::Refusal;
+use ninhalto_reference::scan::Answer;
+use ninhalto_reference::{check, exchange, mover, scan, usemap};
+
+/// How often each number was told, 0 for no refusal: by check, scan, move, exchange.
+type Tally = [[u64; 15]; 4];
+
+fn pair(refusal: Refusal) -> [usize; 2] {
+    [refusal.number as usize, refusal.record as usize]
+}
+
+fn checked(drawn: &Drawn) -> [usize; 4] {
+    let want = match check::check(&drawn.file) {
+        Ok(accepted) => [0, 0, accepted.records.len(), accepted.steps as usize],
+        Err(refusal) => [pair(refusal)[0], pair(refusal)[1], 0, 0],
+    };
+    assert_eq!(proved::check(&drawn.file), want, "check");
+    want
+}
+
+fn seven(answer: Result<Answer, Refusal>) -> [usize; 7] {
+    match answer {
+        Ok(a) => {
+            let kind = if a.ended { 1 } else { 2 };
+            [
+                0,
+                0,
+                kind,
+                a.steps as usize,
+                a.record as usize,
+                a.error as usize,
+                a.error_record as usize,
+            ]
+        }
+        Err(refusal) => [pair(refusal)[0], pair(refusal)[1], 0, 0, 0, 0, 0],
+    }
+}
+
+fn scanned(drawn: &Drawn, budget: Option<u32>) -> usize {
+    let (mut ours, mut theirs): (Memory, Memory) = (drawn.memory.clone(), drawn.memory.clone());
+    let told = proved::scan(&drawn.file, &mut ours, drawn.elapsed, budget);
+    let answer = match budget {
+        Some(budget) => scan::scan(&drawn.file, &mut theirs, drawn.elapsed, budget),
+        None => scan::scan_default(&drawn.file, &mut theirs, drawn.elapsed),
+    };
+    assert_eq!(told, seven(answer), "scan");
+    assert!(ours == theirs, "the memory after a scan");
+    told[0]
+}
+
+fn mapped(drawn: &Drawn) {
+    let (told, read, written) = proved::use_map(&drawn.file);
+    match usemap::use_map(&drawn.file) {
+        Ok(map) => assert!(told == [0, 0] && read == map.read && written == map.written, "map"),
+        Err(refusal) => assert!(
+            told == pair(refusal) && read == [0; 1000] && written == [0; 1000],
+            "refused map"
+        ),
+    }
+}
+
+fn moved(drawn: &Drawn) -> usize {
+    let (told, file) = proved::move_block(&drawn.file, drawn.block, drawn.pool);
+    let mut theirs = drawn.file.clone();
+    let want = match mover::move_block(&mut theirs, drawn.block, drawn.pool) {
+        Ok(place) => [0, 0, place as usize],
+        Err(refusal) => [pair(refusal)[0], pair(refusal)[1], 0],
+    };
+    assert_eq!(told, want, "move");
+    assert!(file == theirs, "the file after a move");
+    told[0]
+}
+
+fn exchanged(drawn: &Drawn) -> usize {
+    let (told, d) = proved::exchange(&drawn.memory.d, drawn.block, drawn.place);
+    let mut theirs = drawn.memory.d.clone();
+    let want = exchange::exchange(&mut theirs, drawn.block, drawn.place).err().map_or([0, 0], pair);
+    assert_eq!(told, want, "exchange");
+    assert!(d == theirs, "the table after an exchange");
+    told[0]
+}
+
+fn turn(seed: u64, turn: u64, tally: &mut Tally) {
+    let mut rng = Rng::new(seed.wrapping_mul(0x1_0000_0000).wrapping_add(turn));
+    let drawn = draw(&mut rng, turn as usize);
+    let [number, _, _, steps] = checked(&drawn);
+    // A scan of all its steps only where that is quick.
+    let budget = if steps > 100_000 { drawn.budget.min(30_000) } else { drawn.budget };
+    let told = scanned(&drawn, Some(budget));
+    if steps <= 100_000 {
+        scanned(&drawn, None);
+    }
+    mapped(&drawn);
+    tally[0][number] += 1;
+    tally[1][told] += 1;
+    tally[2][moved(&drawn)] += 1;
+    tally[3][exchanged(&drawn)] += 1;
+}
+
+fn main() {
+    let word = |i: usize| std::env::args().nth(i).and_then(|word| word.parse::<u64>().ok());
+    let (Some(seed), Some(count)) = (word(1), word(2)) else {
+        eprintln!("robustness SEED COUNT");
+        std::process::exit(2);
+    };
+    let mut tally: Tally = [[0; 15]; 4];
+    for i in 0..count {
+        if std::panic::catch_unwind(std::panic::AssertUnwindSafe(|| turn(seed, i, &mut tally)))
+            .is_err()
+        {
+            eprintln!("turn {i} of seed {seed} differs");
+            std::process::exit(1);
+        }
+    }
+    for (name, row) in ["check", "scan", "move", "exchange"].iter().zip(tally) {
+        let told: Vec<String> = row
+            .iter()
+            .enumerate()
+            .filter(|(_, &n)| n > 0)
+            .map(|(i, n)| format!("{i}: {n}"))
+            .collect();
+        println!("{name:9} {}", told.join(", "));
+    }
+    println!("{count} files: all agree");
+}

@@ -1,0 +1,81 @@
+/* stack: how many bytes of stack each function takes at most, on the files given. Each call runs on a painted stack of its own; what is no longer
+   painted was used. */
+#include "../include/ninhalto.h"
+#include <stdio.h>
+#include <stdlib.h>
+#include <string.h>
+#include <ucontext.h>
+
+enum { STACK = 1 << 20, LONGEST = 65536, PAINT = 0xA7 };
+
+static uint8_t stack[STACK] __attribute__((aligned(4096)));
+static uint8_t file[LONGEST], copy[LONGEST];
+static size_t size;
+static uint8_t x[NINHALTO_X], y[NINHALTO_Y], m[NINHALTO_M], sm[NINHALTO_SM], t[NINHALTO_T], read_map[NINHALTO_MAP], written_map[NINHALTO_MAP];
+static int16_t d[NINHALTO_D], tv[NINHALTO_TV];
+static size_t told[NINHALTO_TOLD], number, at, other, last;
+
+static void nothing(void) {}
+
+static void check(void) {
+    ninhalto_check(file, size, &number, &at, &other, &last);
+}
+
+static void scan(void) {
+    ninhalto_scan(file, size, x, NINHALTO_X, y, NINHALTO_Y, m, NINHALTO_M, sm, NINHALTO_SM, t, NINHALTO_T, d, NINHALTO_D, tv, NINHALTO_TV, 1, 100000,
+                  told);
+}
+
+static void plain_scan(void) {
+    ninhalto_scan_unbudgeted(file, size, x, NINHALTO_X, y, NINHALTO_Y, m, NINHALTO_M, sm, NINHALTO_SM, t, NINHALTO_T, d, NINHALTO_D, tv, NINHALTO_TV, 1,
+                             told);
+}
+
+static void map(void) {
+    ninhalto_map(file, size, &number, &at, read_map, written_map);
+}
+
+static void move(void) {
+    memcpy(copy, file, size);
+    ninhalto_move(copy, size, 100, 10, 0, 8000, &number, &at, &other);
+}
+
+static void exchange(void) {
+    ninhalto_exchange(d, NINHALTO_D, 100, 10, 200, &number, &at);
+}
+
+/* Bytes used of a painted stack by a context that runs this. */
+static size_t used(void (*run)(void)) {
+    static ucontext_t here, there;
+    memset(stack, PAINT, STACK);
+    if (getcontext(&there)) exit(1);
+    there.uc_stack.ss_sp = stack;
+    there.uc_stack.ss_size = STACK;
+    there.uc_link = &here;
+    makecontext(&there, run, 0);
+    if (swapcontext(&here, &there)) exit(1);
+    size_t free = 0;
+    while (free < STACK && stack[free] == PAINT) free++;
+    return STACK - free;
+}
+
+int main(int words, char **word) {
+    static void (*const run[])(void) = {check, scan, plain_scan, map, move, exchange};
+    static const char *const name[] = {"check", "scan", "scan_unbudgeted", "map", "move", "exchange"};
+    size_t most[6] = {0};
+    for (int i = 1; i < words; i++) {
+        FILE *in = fopen(word[i], "rb");
+        if (!in) {
+            perror(word[i]);
+            return 1;
+        }
+        size = fread(file, 1, LONGEST, in);
+        fclose(in);
+        for (int f = 0; f < 6; f++) {
+            size_t more = used(run[f]) - used(nothing);
+            if (more > most[f]) most[f] = more;
+        }
+    }
+    for (int f = 0; f < 6; f++) printf("%s %zu\n", name[f], most[f]);
+    return 0;
+}
