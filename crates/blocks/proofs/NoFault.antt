@@ -10,7 +10,6 @@ use Rattle.ec20.specs.Basics.{pick}
 use Rattle.ec20.specs.Devices.{ec20, meets, meetsWork}
 use Rattle.ec20.specs.Exchange.{placeFault}
 use Rattle.ec20.specs.Move.{Block, Pool, blockFault, poolFault}
-use Rattle.ec20.specs.declared.Judged.{Judged}
 use Rattle.ec20.specs.declared.Judged.the-variants.{Fine, Fault}
 
 -- no fault: the test holds

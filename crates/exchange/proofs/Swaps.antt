@@ -1,8 +1,7 @@
 -- The words exchanged one after the other. Assumes nothing.
 use Prim.Native.Nat.{ℕ, _+_, _-_, _≤_, _<_}
-use mathlib.Core.Bool.{Bool, true, false}
 use mathlib.Core.List.{List}
-use mathlib.Core.Logic.{_⊎_, inl, inr}
+use mathlib.Core.Logic.{inl, inr}
 use mathlib.Core.Path.{_≡_, refl, sym, ap, subst, _∙_}
 use native.Mathlib.Decide.{ℕ-discrete}
 use native.Mathlib.Omega.{arith}
@@ -11,8 +10,7 @@ use lib.ListN.{length, set, length-set}
 use lib.Seq.{ext-getD, getD-set-same, getD-set-other}
 use Rattle.blocks.proofs.Rows.{within-yes, within-no, within-more}
 use Rattle.ec20.proofs.MovedLaws.{getD-from, length-from}
-use Rattle.ec20.specs.Basics.{pick}
-use Rattle.ec20.specs.Devices.{ec20, within}
+use Rattle.ec20.specs.Devices.{ec20}
 use Rattle.ec20.specs.Exchange.{swapped, exchanged}
 use Rattle.ec20.specs.Move.{Block, block}
 use Rattle.ec20.specs.Registers.{wordAt}

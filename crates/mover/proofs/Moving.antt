@@ -5,7 +5,7 @@ use mathlib.Core.Path.{_≡_, refl, sym, ap, _∙_}
 use lib.ListN.{length}
 use Rattle.checker.proofs.Accepted.{whole-records}
 use Rattle.ec20.specs.Basics.{list}
-use Rattle.ec20.specs.Check.{checkFor, checkOf}
+use Rattle.ec20.specs.Check.{checkOf}
 use Rattle.ec20.specs.Devices.{ec20}
 use Rattle.ec20.specs.File.{Records, firstOf, countOf, recordsFrom, recordsOf, frameOf}
 use Rattle.ec20.specs.Move.{Block, Pool, Move, move, movedByte, movedFile, judgeMove, placeOf, moveTo, moveIf, moveFor, moveOf}

@@ -1,7 +1,7 @@
 -- Where the place that is found lies. Assumes nothing.
 use Prim.Native.Nat.{ℕ, _+_, _-_, _≤_}
 use mathlib.Core.Bool.{true, not, _&&_}
-use mathlib.Core.Path.{_≡_, refl, sym, _∙_}
+use mathlib.Core.Path.{_≡_, sym, _∙_}
 use native.Mathlib.Omega.{arith}
 use lib.Dec.{leb}
 use borrow.Author.Tests.{leb-true}
@@ -9,10 +9,10 @@ use Rattle.bound.proofs.First.{first-at}
 use Rattle.ec20.proofs.Tests.{both}
 use Rattle.ec20.specs.Devices.{ec20, inside, meets, meetsWork}
 use Rattle.ec20.specs.File.{Records}
-use Rattle.ec20.specs.Move.{Block, Pool, block, pool, touches, isPlace, placeOf}
+use Rattle.ec20.specs.Move.{block, pool, touches, isPlace, placeOf}
 use Rattle.ec20.specs.UseMap.{someRecord}
 use Rattle.ec20.specs.declared.Found.{Found}
-use Rattle.ec20.specs.declared.Found.the-variants.{At, Nowhere}
+use Rattle.ec20.specs.declared.Found.the-variants.{At}
 use Rattle.mover.specs.Ready.{Sized}
 use Rattle.rewrite.specs.Numbers.{Below}
 

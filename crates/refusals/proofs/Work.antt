@@ -97,7 +97,7 @@ in-words v p o e k h =
 
 -- ---- the extent meets WORK: they have a word in common
 
-shared : (v : Device) (a n : ℕ) → meetsWork v a n ≡ true → 1 ≤ n → a + n ≤ v .words → (i : ℕ) × (a ≤ i) × (i < a + n) × Work v i
+pub shared : (v : Device) (a n : ℕ) → meetsWork v a n ≡ true → 1 ≤ n → a + n ≤ v .words → (i : ℕ) × (a ≤ i) × (i < a + n) × Work v i
 unfolding meetsWork meets
 shared v a n e l h =
     let q = both (ltb a (v .work + (v .words - v .work))) (ltb (v .work) (a + n)) e in
@@ -107,7 +107,7 @@ shared v a n e l h =
       | no z ↦ (a, omega arith, omega arith, record { from = omega arith; to = omega arith })
     ]
 
-sharing : (v : Device) (a n i : ℕ) → a ≤ i → i < a + n → Work v i → meetsWork v a n ≡ true
+pub sharing : (v : Device) (a n i : ℕ) → a ≤ i → i < a + n → Work v i → meetsWork v a n ≡ true
 unfolding meetsWork meets
 sharing v a n i l h k =
     let x : v .work ≤ i = k .from in

@@ -1,8 +1,7 @@
 -- A number of four bytes put into a file, byte by byte. Assumes nothing.
-use Prim.Native.Nat.{ℕ, zero, suc, _+_, _*_, _/_, _%_, _<_, _≤_}
+use Prim.Native.Nat.{ℕ, zero, suc, _+_, _*_, _<_, _≤_}
 use mathlib.Core.List.{List}
 use mathlib.Core.Path.{_≡_, refl, sym, ap, _∙_}
-use native.Mathlib.Decide.{ℕ-discrete}
 use native.Mathlib.Omega.{arith}
 use lib.ListN.{length, set, length-set}
 use lib.Seq.{getD-set-same, getD-set-other, set-getD}
@@ -92,6 +91,15 @@ module _ (a b c d : ℕ) (ha : a < 256) (hb : b < 256) (hc : c < 256) (hd : d < 
 
   byte-3 : byteOf sum 3 ≡ d
   byte-3 = omega arith
+
+-- byte j of the number that four bytes hold is the one that stands there
+pub u32-read : (f : List ℕ) (i : ℕ) → ((k : ℕ) → byteAt f k < 256) → (j : ℕ) → j < 4 → byteOf (u32At f i) j ≡ byteAt f (i + j)
+unfolding u32At
+u32-read f i h zero l = let e : i + 0 ≡ i = omega arith in byte-0 _ _ _ _ (h i) (h (i + 1)) (h (i + 2)) (h (i + 3)) ∙ ap (byteAt f) (sym e)
+u32-read f i h (suc zero) l = byte-1 _ _ _ _ (h i) (h (i + 1)) (h (i + 2)) (h (i + 3))
+u32-read f i h (suc (suc zero)) l = byte-2 _ _ _ _ (h i) (h (i + 1)) (h (i + 2)) (h (i + 3))
+u32-read f i h (suc (suc (suc zero))) l = byte-3 _ _ _ _ (h i) (h (i + 1)) (h (i + 2)) (h (i + 3))
+u32-read f i h (suc (suc (suc (suc j)))) l = absurd (omega (arith, l))
 
 pub u32-kept : (f : List ℕ) (i : ℕ) → ((k : ℕ) → byteAt f k < 256) → withU32 f i (u32At f i) ≡ f
 unfolding withU32 u32At

@@ -2,12 +2,11 @@
 use Prim.Native.Nat.{ℕ, _+_, _-_, _<_, _≤_, _^_}
 use mathlib.Core.Bool.{Bool, true, false, _&&_}
 use mathlib.Core.List.{List}
-use mathlib.Core.Path.{_≡_, refl, sym, ap, _∙_}
+use mathlib.Core.Path.{_≡_, sym, ap, _∙_}
 use native.Mathlib.Omega.{arith}
 use lib.Dec.{eqb}
 use Rattle.blocks.proofs.Rows.{is-within}
 use Rattle.ec20.proofs.Tests.{both}
-use Rattle.ec20.specs.Basics.{pick}
 use Rattle.ec20.specs.Devices.{within}
 use Rattle.ec20.specs.File.{byteAt, u32At, operandAt}
 use Rattle.ec20.specs.Move.{block, movedNumber}

@@ -2,13 +2,13 @@
 use Prim.Native.Nat.{ℕ, zero, suc, _+_, _-_, _*_, _/_, _%_, _<_, _≤_}
 use mathlib.Core.List.{List}
 use mathlib.Core.Path.{_≡_, refl, sym, ap, subst, _∙_}
-use native.Mathlib.Decide.{decLt, ℕ-discrete}
+use native.Mathlib.Decide.{decLt}
 use native.Mathlib.Omega.{arith}
 use lib.ListN.{length}
 use lib.Seq.{ext-getD}
 use borrow.Author.Tests.{le-leb, lt-leb}
 use Rattle.ec20.proofs.MovedLaws.{getD-from, length-from, comment-kept, trailer-kept, in-record}
-use Rattle.ec20.specs.Basics.{pick, list}
+use Rattle.ec20.specs.Basics.{list}
 use Rattle.ec20.specs.File.{byteAt, operandAt}
 use Rattle.ec20.specs.Move.{Block, byteOf, movedNumber, movedInRecord, movedByte}
 use Rattle.rewrite.proofs.NumberLaws.{u32-length, u32-other, u32-byte, operand-after}
@@ -20,12 +20,12 @@ list-at n rule x h = let e : 0 + x ≡ x = omega arith in getD-from rule 0 n x 0
 
 module _ (b : Block) (q : ℕ) (f : List ℕ) (i : ℕ) where
   -- a byte of a record that is in no operand's number is as it was
-  kind-byte : (r : ℕ) → (r - 2) % 6 < 2 → movedInRecord b q f i r ≡ byteAt f (i + r)
+  pub kind-byte : (r : ℕ) → (r - 2) % 6 < 2 → movedInRecord b q f i r ≡ byteAt f (i + r)
   unfolding movedInRecord
   kind-byte r h = rw (lt-leb _ _ h) refl
 
   -- byte t of operand m's number is that of the moved number
-  number-byte : (m t : ℕ) → t < 4 → movedInRecord b q f i (m * 6 + (4 + t)) ≡ byteOf (movedNumber b q (operandAt f (i + 2 + m * 6))) t
+  pub number-byte : (m t : ℕ) → t < 4 → movedInRecord b q f i (m * 6 + (4 + t)) ≡ byteOf (movedNumber b q (operandAt f (i + 2 + m * 6))) t
   unfolding movedInRecord
   number-byte m t h =
       let a : (m * 6 + (4 + t) - 2) / 6 ≡ m = omega arith in
@@ -35,12 +35,12 @@ module _ (b : Block) (q : ℕ) (f : List ℕ) (i : ℕ) where
       rw (a, j, le-leb _ _ l, z) refl
 
 -- where byte x stands to the record at byte i: in the number of operand m, elsewhere in the record, outside it
-data Lies (i x : ℕ) : Type 0 where
+pub data Lies (i x : ℕ) : Type 0 where
   number : (m t : ℕ) → m < 3 → t < 4 → x ≡ i + (m * 6 + (4 + t)) → Lies i x
   other : (r : ℕ) → r < 20 → (r - 2) % 6 < 2 → x ≡ i + r → Lies i x
   outside : (i ≤ x → i + 20 ≤ x) → Lies i x
 
-lies : (i x : ℕ) → Lies i x
+pub lies : (i x : ℕ) → Lies i x
 lies i x =
     elim (decLt x i) [
       | yes l ↦ outside (λ g. absurd (omega arith))

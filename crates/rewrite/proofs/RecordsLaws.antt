@@ -1,5 +1,5 @@
 -- One record more moved. Assumes nothing.
-use Prim.Native.Nat.{ℕ, _+_, _-_, _*_, _/_, _%_, _<_, _≤_}
+use Prim.Native.Nat.{ℕ, _+_, _-_, _*_, _/_, _<_, _≤_}
 use mathlib.Core.List.{List}
 use mathlib.Core.Path.{_≡_, refl, sym, ap, subst, _∙_}
 use native.Mathlib.Decide.{decLt, decLe}
@@ -8,10 +8,9 @@ use lib.ListN.{length}
 use lib.Seq.{ext-getD}
 use Rattle.blocks.proofs.Rows.{within-yes, within-no}
 use Rattle.ec20.proofs.MovedLaws.{length-from, comment-kept, trailer-kept, in-record}
-use Rattle.ec20.specs.Basics.{pick, list}
-use Rattle.ec20.specs.Devices.{within}
+use Rattle.ec20.specs.Basics.{list}
 use Rattle.ec20.specs.File.{byteAt, u32At, operandAt}
-use Rattle.ec20.specs.Move.{Block, movedNumber, movedInRecord, movedByte}
+use Rattle.ec20.specs.Move.{Block, movedInRecord, movedByte}
 use Rattle.rewrite.proofs.RecordLaws.{list-at}
 
 module _ (b : Block) (q : ℕ) (f : List ℕ) (first : ℕ) where

@@ -1,2 +1,3 @@
--- A number of four bytes put into a file.
+-- A number of four bytes put into a file; and the bytes that a move changes.
 pub mod Numbers
+pub mod Changed

@@ -1,6 +1,5 @@
 use mathlib.Core.Path.{refl}
 use Rattle.ec20.specs.Move.{poolFault}
-use borrow.Author.Needs.{needs}
 use Rattle.blocks.proofs.pool_fault.Statement.{statement}
 use Rattle.blocks.proofs.pool_fault.Tie as tie
 

@@ -1,2 +1,0 @@
--- What the four numbers tell.
-pub mod ToldLaws

@@ -1,0 +1,22 @@
+-- The three demands, proved. Read Demand1, Demand2 and Demand3; what they rest on stands before them.
+-- Ranges of words, and a judgement by one line
+pub mod Ranges
+pub mod Tells
+-- The lines 9 to 14, and the answers of scan, mover and exchange by them
+pub mod Lines
+pub mod Split
+pub mod Places
+pub mod ScanAnswers
+pub mod MoveAnswers
+pub mod ExchangeAnswers
+-- Steps, counted out
+pub mod Counted
+-- Flow and stacks: a byte as a stack, a step by the rung rule, a whole scan
+pub mod Stacks
+pub mod Power
+pub mod Going
+pub mod Total
+-- The demands
+pub mod Demand1
+pub mod Demand2
+pub mod Demand3

@@ -1,0 +1,136 @@
+-- The line 14, and the place that is taken.
+use Prim.Native.Nat.{ℕ, zero, suc, _+_, _-_, _≤_, _<_}
+use mathlib.Core.Bool.{Bool, true, false, not, _&&_}
+use mathlib.Core.List.{List}
+use mathlib.Core.Logic.{inl, inr}
+use mathlib.Core.Path.{_≡_, refl, sym, subst}
+use native.Mathlib.Omega.{arith}
+use native.Mathlib.Decide.{decLt, ℕ-discrete}
+use borrow.Author.Tests.{not-true}
+use Rattle.ec20.proofs.Tests.{both, either, neither, differ}
+use Rattle.ec20.specs.declared.Found.{Found}
+use Rattle.ec20.specs.declared.Found.the-variants.{At, Nowhere}
+use Rattle.ec20.specs.declared.Operand.{Operand}
+use Rattle.ec20.specs.declared.Place.{Place}
+use Rattle.ec20.specs.Basics.{someFrom}
+use Rattle.ec20.specs.Devices.{ec20, meets, inside, meetsWork}
+use Rattle.ec20.specs.File.{countOf, recordsOf}
+use Rattle.ec20.specs.Move.{Block, block, Pool, touches, isPlace, placeOf}
+use Rattle.ec20.specs.UseMap.{recordHas, someRecord}
+use Rattle.bound.proofs.First.{first-at, no-first}
+use Rattle.refusals.specs.Records.{Operand-at}
+use Rattle.refusals.specs.Table.{recordAt}
+use Rattle.demands.specs.Lines.{In, Extent, Accepts, Right, Lowest, Line14, Not11, start-above}
+use Rattle.demands.proofs.Ranges.{is-false, not-both, in-common, common-meets, work-common, common-work, inside-to, to-inside}
+use Rattle.demands.proofs.Split.{has-one, one-has, has-word, touches-to, to-touches}
+
+-- one of the n numbers from k on passes
+some-of : (p : ℕ → Bool) (k n : ℕ) → someFrom p k n ≡ true → (j : ℕ) × (j < k + n) × (p j ≡ true)
+unfolding someFrom
+some-of p k zero e = differ (sym e)
+some-of p k (suc n) e =
+    elim (either (p k) (someFrom p (suc k) n) e) [
+      | inl q ↦ (k, omega arith, q)
+      | inr q ↦ let r = some-of p (suc k) n q in (r .0, omega (arith, r .1), r .2)
+    ]
+
+none-of : (p : ℕ → Bool) (k n : ℕ) → someFrom p k n ≡ false → (j : ℕ) → k ≤ j → j < k + n → p j ≡ false
+unfolding someFrom
+none-of p k zero e j a b = absurd (omega arith)
+none-of p k (suc n) e j a b =
+    let q = neither (p k) (someFrom p (suc k) n) e in
+    elim (ℕ-discrete k j) [
+      | yes z ↦ subst (λ (i : ℕ). p i ≡ false) z (q .0)
+      | no z ↦ none-of p (suc k) n (q .1) j (omega arith) (omega arith)
+    ]
+
+-- the start of a pool that 11 does not refuse is not above its end
+pub pool-order : (l : Pool) → Not11 l → l .start ≤ l .end
+pool-order l h = elim (decLt (l .end) (l .start)) [ yes q ↦ absurd (h (start-above q)) | no q ↦ omega arith ]
+
+-- what a search for a place says
+abbrev pub Finds : List ℕ → Block → Pool → Found → Type 0
+Finds f b l (At q) = Lowest f b l q
+Finds f b l Nowhere = Line14 f b l
+
+-- an accepted file, a block that is not empty, a pool whose start is not above its end
+module _ (f : List ℕ) (b : Block) (l : Pool) (ok : Accepts f) (some : 0 < b .length) (order : l .start ≤ l .end) where
+  module _ (q : ℕ) where
+    abbrev InPool : Bool
+    InPool = inside q (b .length) (l .start) (l .end - l .start)
+
+    abbrev Meets : Bool
+    Meets = meets q (b .length) (b .start) (b .length)
+
+    abbrev Worked : Bool
+    Worked = meetsWork ec20 q (b .length)
+
+    abbrev Used : Bool
+    Used = someRecord (touches (block q (b .length))) (recordsOf f)
+
+    -- ---- what passes is right
+
+    unused-to : Used ≡ false → (k : ℕ) → k < countOf f → (p : Place) (o : Operand) → Operand-at (recordAt f k) p o
+        → (i : ℕ) → In q (b .length) i → Extent p o i → ⊥
+    unfolding someRecord
+    unused-to e k h p o at i x y =
+        not-both (one-has (touches (block q (b .length))) (recordAt f k) p o at (to-touches (block q (b .length)) p o i y x))
+        (none-of (λ j. recordHas (touches (block q (b .length))) (recordsOf f .at j)) 0 (countOf f) e k (omega arith) (omega arith))
+
+    pub place-right : isPlace ec20 (recordsOf f) b l q ≡ true → Right f b l q
+    unfolding isPlace
+    place-right e =
+        let x = both (InPool && not Meets && not Worked) (not Used) e in
+        let y = both (InPool && not Meets) (not Worked) (x .0) in
+        let z = both InPool (not Meets) (y .0) in
+        let w = inside-to q (b .length) (l .start) (l .end - l .start) (z .0) in
+        record {
+          from = w .0;
+          to = omega (arith, w .1, order);
+          off-block = λ i u v. not-both (common-meets q (b .length) (b .start) (b .length) i (record { from = u .from; to = omega (arith, u .to, some) }) v) (not-true _ (z .1));
+          off-work = λ i u v. not-both (common-work q (b .length) i (record { from = u .from; to = omega (arith, u .to, some) }) v) (not-true _ (y .1));
+          unused = unused-to (not-true _ (x .1));
+        }
+
+    -- ---- and what is right passes
+
+    used-not : Right f b l q → Used ≡ true → ⊥
+    unfolding someRecord
+    used-not r e =
+        let s = some-of (λ j. recordHas (touches (block q (b .length))) (recordsOf f .at j)) 0 (countOf f) e in
+        let h : s .0 < countOf f = omega (arith, s .1) in
+        let t = has-one (touches (block q (b .length))) (recordAt f (s .0)) (s .2) in
+        let u = touches-to (block q (b .length)) (t .0) (t .1) (has-word f ok (s .0) h (t .0) (t .1) (t .2)) some (t .3) in
+        r .unused (s .0) h (t .0) (t .1) (t .2) (u .0) (u .2) (u .1)
+
+    pub right-place : Right f b l q → isPlace ec20 (recordsOf f) b l q ≡ true
+    unfolding isPlace
+    right-place r =
+        let w : q + b .length ≤ l .start + (l .end - l .start) = omega (arith, r .to, order) in
+        let x : Meets ≡ false = is-false Meets (λ e. let s = in-common q (b .length) (b .start) (b .length) some some e in r .off-block (s .0) (s .1) (s .2)) in
+        let y : Worked ≡ false = is-false Worked (λ e. let s = work-common q (b .length) some e in r .off-work (s .0) (s .1) (s .2)) in
+        rw (to-inside q (b .length) (l .start) (l .end - l .start) (r .from) w, x, y, is-false Used (used-not r))
+
+  -- ---- what the search finds
+
+  by-found : (x : Found) → placeOf ec20 (recordsOf f) b l ≡ x → Finds f b l x
+  unfolding placeOf
+  by-found (At q) e =
+      let r = first-at (isPlace ec20 (recordsOf f) b l) (l .end - l .start) (l .start) q e in
+      record {
+        right = place-right q (r .passes);
+        none-lower = λ j h z. not-both (right-place j z) (r .none j (z .from) h);
+      }
+  by-found Nowhere e =
+      λ q z. not-both (right-place q z) (no-first (isPlace ec20 (recordsOf f) b l) (l .end - l .start) (l .start) e q (z .from) (omega (arith, z .to, some, order)))
+
+  pub found-place : Finds f b l (placeOf ec20 (recordsOf f) b l)
+  found-place = by-found (placeOf ec20 (recordsOf f) b l) refl
+
+-- there is one lowest
+pub one-lowest : (f : List ℕ) (b : Block) (l : Pool) (q j : ℕ) → Lowest f b l q → Lowest f b l j → q ≡ j
+one-lowest f b l q j x y =
+    elim (decLt q j) [
+      | yes h ↦ absurd (y .none-lower q h (x .right))
+      | no h ↦ elim (decLt j q) [ yes g ↦ absurd (x .none-lower j g (y .right)) | no g ↦ omega arith ]
+    ]

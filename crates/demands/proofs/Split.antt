@@ -1,0 +1,143 @@
+-- The line 13: an operand's extent partly in the block, as the definition tests it and by its words.
+use Prim.Native.Nat.{ℕ, _+_, _≤_, _<_}
+use mathlib.Core.Bool.{Bool, true, false, not, _&&_, _||_}
+use mathlib.Core.List.{List}
+use mathlib.Core.Logic.{inl, inr}
+use mathlib.Core.Path.{_≡_, refl, ap₂}
+use native.Mathlib.Omega.{arith}
+use native.Mathlib.Decide.{ℕ-discrete}
+use borrow.Author.Tests.{eqb-true, eq-eqb, not-true}
+use Rattle.ec20.proofs.Tests.{both, either}
+use Rattle.ec20.specs.declared.Found.{Found}
+use Rattle.ec20.specs.declared.Found.the-variants.{At, Nowhere}
+use Rattle.ec20.specs.declared.Operand.{Operand}
+use Rattle.ec20.specs.declared.Place.{Place}
+use Rattle.ec20.specs.declared.Rec.{Rec}
+use Rattle.ec20.specs.Basics.{firstAt, refusedAt}
+use Rattle.ec20.specs.Check.{checkOf}
+use Rattle.ec20.specs.Devices.{ec20, kindD, inside}
+use Rattle.ec20.specs.File.{countOf, recordsOf}
+use Rattle.ec20.specs.Move.{Block, touches, partly, splitFault}
+use Rattle.ec20.specs.Operands.{kindIs, allowed}
+use Rattle.ec20.specs.Table.{rowOf, roleUnused}
+use Rattle.ec20.specs.UseMap.{someOperand, recordHas}
+use Rattle.bound.proofs.First.{first-at, no-first}
+use Rattle.refusals.specs.Records.{Operand-at, first, second, third, wrong, not-allowed, not-zero, by-3}
+use Rattle.refusals.specs.Table.{recordAt}
+use Rattle.refusals.proofs.Refused.{not-refused}
+use Rattle.refusals.proofs.Search.{Judges}
+use Rattle.moved.proofs.InD.{at-word}
+use Rattle.moved.proofs.Rows.{some-word}
+use Rattle.demands.specs.Lines.{InBlock, Extent, Accepts, Partly, Line13, partly as is-partly}
+use Rattle.demands.proofs.Ranges.{is-false, not-both, in-common, common-meets, inside-to, one-out}
+
+-- ---- the operands of a record
+
+module _ (test : Place → Operand → Bool) (r : Rec) where
+  abbrev One : Bool
+  One = test (rowOf (r .number) .first) (r .first)
+
+  abbrev Two : Bool
+  Two = test (rowOf (r .number) .second) (r .second)
+
+  abbrev Three : Bool
+  Three = test (rowOf (r .number) .third) (r .third)
+
+  -- one of them passes
+  pub has-one : recordHas test r ≡ true → (p : Place) × (o : Operand) × Operand-at r p o × (test p o ≡ true)
+  unfolding someOperand
+  has-one e =
+      elim (either (One || Two) Three e) [
+        | inl q ↦ elim (either One Two q) [ inl z ↦ (_, _, first, z) | inr z ↦ (_, _, second, z) ]
+        | inr z ↦ (_, _, third, z)
+      ]
+
+  or-true : (b : Bool) → (b || true) ≡ true
+  or-true true = refl
+  or-true false = refl
+
+  pub one-has : (p : Place) (o : Operand) → Operand-at r p o → test p o ≡ true → recordHas test r ≡ true
+  unfolding someOperand
+  one-has p o first e = rw e
+  one-has p o second e = rw (e, or-true One)
+  one-has p o third e = rw (e, or-true (One || Two))
+
+-- ---- in an accepted file, an operand in D has a word at least
+
+module _ (f : List ℕ) (ok : Accepts f) (k : ℕ) (h : k < countOf f) (p : Place) (o : Operand) (at : Operand-at (recordAt f k) p o) (d : o .kind ≡ kindD) where
+  is-allowed : (t : Bool) → allowed ec20 p o ≡ t → t ≡ true
+  unfolding checkOf
+  is-allowed true e = refl
+  is-allowed false e =
+      let none = not-refused ec20 f (ok .0) (ok .1) .0 (ok .2) .3 k h in
+      elim (ℕ-discrete (p .role) roleUnused) [
+        | yes u ↦ absurd (none (by-3 (wrong at (not-zero u (λ z. let y = z .kind in omega (arith, y, d))))))
+        | no u ↦ absurd (none (by-3 (wrong at (not-allowed u e))))
+      ]
+
+  pub has-word : 0 < p .extent
+  has-word = let w = some-word (recordAt f k) at (at-word ec20 p o d (is-allowed (allowed ec20 p o) refl)) in omega (arith, w)
+
+-- ---- an operand's extent and words from a on
+
+pub touches-to : (b : Block) (p : Place) (o : Operand) → (o .kind ≡ kindD → 0 < p .extent) → 0 < b .length → touches b p o ≡ true
+    → (i : ℕ) × Extent p o i × InBlock b i
+unfolding touches
+touches-to b p o some h e =
+    let q = both (kindIs kindD o) _ e in
+    let d : o .kind ≡ kindD = eqb-true _ _ (q .0) in
+    let s = in-common (o .value) (p .extent) (b .start) (b .length) (some d) h (q .1) in
+    (s .0, record { in-D = d; words = s .1 }, s .2)
+
+pub to-touches : (b : Block) (p : Place) (o : Operand) (i : ℕ) → Extent p o i → InBlock b i → touches b p o ≡ true
+unfolding touches
+to-touches b p o i x y = ap₂ _&&_ (eq-eqb _ _ (x .in-D)) (common-meets (o .value) (p .extent) (b .start) (b .length) i (x .words) y)
+
+module _ (b : Block) (p : Place) (o : Operand) where
+  abbrev Within : Bool
+  Within = inside (o .value) (p .extent) (b .start) (b .length)
+
+  partly-to : (o .kind ≡ kindD → 0 < p .extent) → 0 < b .length → partly b p o ≡ true → Partly b p o
+  unfolding partly
+  partly-to some h e =
+      let q = both (touches b p o) (not Within) e in
+      let s = touches-to b p o some h (q .0) in
+      let d : o .kind ≡ kindD = s .1 .in-D in
+      let t = one-out (o .value) (p .extent) (b .start) (b .length) (some d) (not-true _ (q .1)) in
+      record { one = s .0; one-of = s .1; one-in = s .2; other = t .0; other-of = record { in-D = d; words = t .1 }; other-out = t .2 }
+
+  out-not : Partly b p o → Within ≡ true → ⊥
+  out-not x e =
+      let q = inside-to (o .value) (p .extent) (b .start) (b .length) e in
+      let h : o .value ≤ x .other = x .other-of .words .from in
+      let k : x .other < o .value + p .extent = x .other-of .words .to in
+      x .other-out (record { from = omega (arith, q .0); to = omega (arith, q .1) })
+
+  to-partly : Partly b p o → partly b p o ≡ true
+  unfolding partly
+  to-partly x = rw (to-touches b p o (x .one) (x .one-of) (x .one-in), is-false Within (out-not x))
+
+-- ---- the line
+
+module _ (f : List ℕ) (b : Block) (ok : Accepts f) (h : 0 < b .length) where
+  abbrev test : ℕ → Bool
+  test k = recordHas (partly b) (recordsOf f .at k)
+
+  holds : (k : ℕ) → k < countOf f → test k ≡ true → Line13 f b k
+  holds k l e =
+      let s = has-one (partly b) (recordAt f k) e in
+      is-partly (s .2) (partly-to b (s .0) (s .1) (has-word f ok k l (s .0) (s .1) (s .2)) h (s .3))
+
+  held : (k : ℕ) → Line13 f b k → test k ≡ true
+  held k (is-partly {p} {o} at x) = one-has (partly b) (recordAt f k) p o at (to-partly b p o x)
+
+  by-found : (x : Found) → firstAt test (countOf f) 0 ≡ x → Judges 13 (countOf f) (Line13 f b) (refusedAt 13 x)
+  by-found (At k) e =
+      let r = first-at test (countOf f) 0 k e in
+      let l : k < countOf f = omega (arith, r .high) in
+      (refl, record { inside = l; holds = holds k l (r .passes); before = λ j m z. not-both (held j z) (r .none j (omega arith) m) })
+  by-found Nowhere e = λ j l z. not-both (held j z) (no-first test (countOf f) 0 e j (omega arith) (omega arith))
+
+  pub judged-13 : Judges 13 (countOf f) (Line13 f b) (splitFault (recordsOf f) b)
+  unfolding splitFault
+  judged-13 = by-found (firstAt test (countOf f) 0) refl

@@ -1,0 +1,43 @@
+-- DEMAND 2. "A scan of an accepted program leaves the memory, flags, errors and step count that document 01 states. It makes at most W steps.
+-- No scan changes WORK, D7900 to D7999."
+use Prim.Native.Nat.{ℕ, _≤_, _<_}
+use mathlib.Core.List.{List}
+use mathlib.Core.Logic.{_⊎_}
+use mathlib.Core.Path.{_≡_}
+use Rattle.ec20.specs.declared.Report.{Report}
+use Rattle.ec20.specs.declared.Scanned.{Scanned}
+use Rattle.ec20.specs.declared.Scanned.the-variants.{Ended, Watchdog}
+use Rattle.ec20.specs.Bits.{bitAt}
+use Rattle.ec20.specs.Code.{programOf}
+use Rattle.ec20.specs.Memory.{Memory}
+use Rattle.ec20.specs.Registers.{wordAt}
+use Rattle.ec20.specs.Scan.{scanOf}
+use Rattle.ec20.specs.UseMap.{useMapOf}
+use Rattle.bound.specs.Scans.{EndsIn}
+use Rattle.demands.specs.Lines.{Work, Not9}
+use Rattle.demands.specs.Steps.{afterSteps, Counted}
+use Rattle.demands.specs.Total.{Sound}
+
+-- ended or watchdog, with this report
+abbrev pub Reports : Scanned → Report → Type 0
+Reports a r = (a ≡ Ended r) ⊎ (a ≡ Watchdog r)
+
+-- THE DEMAND, of a file f that is accepted with n records and W = w; for every elapsed time e, budget b and memory c.
+pub record Demand2 (f : List ℕ) (n w : ℕ) : Type 0 where
+  -- "leaves the memory, flags, errors and step count that document 01 states": it is as many steps of the definition as it tells, and the
+  -- memory, in which the flags are, the first error and the record stopped at are as after exactly those steps
+  pub counted : (e b : ℕ) (c : Memory) → Not9 e c → Counted (programOf f) e b c (scanOf f e b c)
+  -- and at each record that it executes document 01 gives a meaning: flow, stacks, loops and jumps are as the record needs them
+  pub total : (e b : ℕ) (c : Memory) (h : Not9 e c) (j : ℕ) → j < counted e b c h .steps → Sound (programOf f) (afterSteps (programOf f) e c j)
+  -- the record stopped at is one of the program's
+  pub stops-inside : (e b : ℕ) (c : Memory) (r : Report) → Reports (scanOf f e b c .answer) r → r .stop < n
+  -- "It makes at most W steps."
+  pub at-most-w : (e b : ℕ) (c : Memory) (r : Report) → Reports (scanOf f e b c .answer) r → r .steps ≤ w
+  -- so a budget of W is enough: it ends at END, the last record, and never in the watchdog
+  pub w-is-enough : (e b : ℕ) (c : Memory) → Not9 e c → w ≤ b → EndsIn (scanOf f e b c .answer) n w
+  pub no-watchdog : (e b : ℕ) (c : Memory) → w ≤ b → (r : Report) → scanOf f e b c .answer ≡ Watchdog r → ⊥
+  -- "No scan changes WORK, D7900 to D7999."
+  pub work : (e b : ℕ) (c : Memory) (i : ℕ) → Work i → wordAt (scanOf f e b c .mem .d) i ≡ wordAt (c .d) i
+  -- "A word not marked written is changed by no scan."
+  pub unmarked : (e b : ℕ) (c : Memory) (i : ℕ) → i < 8000 → bitAt (useMapOf f .written) i ≡ 0
+      → wordAt (scanOf f e b c .mem .d) i ≡ wordAt (c .d) i

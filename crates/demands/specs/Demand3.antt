@@ -1,0 +1,73 @@
+-- DEMAND 3. "The mover picks the lowest right place, or says 'no place' exactly when there is none. Exchange the two ranges in the D table and
+-- run the moved program: for any memory and any series of inputs, elapsed times and budgets, every scan gives the old answer and the old
+-- memory with the ranges exchanged."
+use Prim.Native.Nat.{ℕ, _+_, _*_, _≤_, _<_}
+use mathlib.Core.List.{List, map}
+use mathlib.Core.Logic.{_↔_}
+use mathlib.Core.Path.{_≡_}
+use lib.IntN.{ℤ}
+use lib.ListN.{length}
+use Rattle.ec20.specs.declared.Exchanged.the-variants.{Done}
+use Rattle.ec20.specs.declared.Moved.the-variants.{To, Refused}
+use Rattle.ec20.specs.Check.{checkOf}
+use Rattle.ec20.specs.Code.{programOf}
+use Rattle.ec20.specs.Exchange.{swapped, exchangeOf}
+use Rattle.ec20.specs.File.{byteAt, firstOf, countOf}
+use Rattle.ec20.specs.Memory.{Memory, withD}
+use Rattle.ec20.specs.Move.{Block, Pool, move, moveOf, movedFile}
+use Rattle.ec20.specs.Registers.{wordAt}
+use Rattle.ec20.specs.Scan.{Scan, scan}
+use Rattle.moving.specs.Rename.{renameProgram, exchangeBy}
+use Rattle.moving.specs.Series.{Input, series}
+use Rattle.demands.specs.Lines.{In, InBlock, Lowest, Line14, Asked}
+
+-- each byte of a lent file is below 256
+abbrev pub OfBytes : List ℕ → Type 0
+OfBytes f = (i : ℕ) → byteAt f i < 256
+
+-- the D table with the words of the block b and of the place at q exchanged
+abbrev pub exchange : Block → ℕ → List ℤ → List ℤ
+exchange b q d = exchangeBy (swapped b q) d
+
+-- the memory with these words exchanged, and all else as it is; an answer with its memory so
+abbrev pub withExchange : Block → ℕ → Memory → Memory
+withExchange b q c = withD c (exchange b q (c .d))
+
+abbrev pub scanExchanged : Block → ℕ → Scan → Scan
+scanExchanged b q s = scan (s .answer) (withExchange b q (s .mem))
+
+-- "Exchange the two ranges in the D table": what that is, word by word, in a table d of 8,000 words
+pub record Exchanges (b : Block) (q : ℕ) (d : List ℤ) : Type 0 where
+  -- the call does it
+  pub done : exchangeOf d b q ≡ record { answer = Done; words = exchange b q d }
+  pub size : length (exchange b q d) ≡ 8000
+  pub to-place : (j : ℕ) → j < b .length → wordAt (exchange b q d) (q + j) ≡ wordAt d (b .start + j)
+  pub to-block : (j : ℕ) → j < b .length → wordAt (exchange b q d) (b .start + j) ≡ wordAt d (q + j)
+  pub others : (i : ℕ) → (InBlock b i → ⊥) → (In q (b .length) i → ⊥) → wordAt (exchange b q d) i ≡ wordAt d i
+  -- and done again it is undone
+  pub twice : exchange b q (exchange b q d) ≡ d
+
+-- the file f, whose block b the mover put at q, and the file g that it left
+pub record Same (f : List ℕ) (b : Block) (q : ℕ) (g : List ℕ) : Type 0 where
+  -- "The moved program is the old file, byte for byte, with each D number in the block raised or lowered by the distance."
+  pub bytes : g ≡ movedFile b q f
+  -- so comment and trailer are as they were, and each record is the old one with its D numbers in the block exchanged for those of the place
+  pub size : length g ≡ length f
+  pub comment : (i : ℕ) → i < firstOf f → byteAt g i ≡ byteAt f i
+  pub trailer : (i : ℕ) → firstOf f + 20 * countOf f ≤ i → byteAt g i ≡ byteAt f i
+  pub program : programOf g ≡ renameProgram (swapped b q) (programOf f)
+  -- it is accepted with as many records and the same W
+  pub check : checkOf g ≡ checkOf f
+  pub exchanges : (d : List ℤ) → length d ≡ 8000 → Exchanges b q d
+  -- "for any memory and any series of inputs, elapsed times and budgets, every scan gives the old answer and the old memory with the ranges
+  -- exchanged": the inputs are given alike to both
+  pub scans : (c : Memory) (is : List Input) → series g (withExchange b q c) is ≡ map (scanExchanged b q) (series f c is)
+
+-- THE DEMAND, of every file of bytes f, block b and pool l.
+pub record Demand3 (f : List ℕ) (b : Block) (l : Pool) : Type 0 where
+  -- "The mover picks the lowest right place"
+  pub picks : (q : ℕ) → (moveOf f b l .answer ≡ To q) ↔ (Asked f b l × Lowest f b l q)
+  -- "or says 'no place' exactly when there is none"
+  pub no-place : (k : ℕ) → (moveOf f b l .answer ≡ Refused 14 k) ↔ ((k ≡ 0) × Asked f b l × Line14 f b l)
+  -- and of what it picks
+  pub same : (q : ℕ) (g : List ℕ) → moveOf f b l ≡ move (To q) g → Same f b q g

@@ -1,0 +1,11 @@
+-- The three demands, each as a statement over the definitions of crates/ec20/specs.
+-- Words of D and the lines 9 to 14 of the table of refusals
+pub mod Lines
+-- Steps of a scan, counted out
+pub mod Steps
+-- Flow and stacks where a record is due
+pub mod Total
+-- The demands
+pub mod Demand1
+pub mod Demand2
+pub mod Demand3

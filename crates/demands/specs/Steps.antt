@@ -1,0 +1,34 @@
+-- Steps of a scan, counted out.
+use Prim.Native.Nat.{ℕ, zero, suc, _≤_, _<_}
+use mathlib.Core.Path.{_≡_}
+use Rattle.ec20.specs.declared.Machine.{Machine}
+use Rattle.ec20.specs.declared.Report.{Report}
+use Rattle.ec20.specs.declared.Scanned.{Scanned}
+use Rattle.ec20.specs.declared.Scanned.the-variants.{Ended, Watchdog}
+use Rattle.ec20.specs.Code.{Program}
+use Rattle.ec20.specs.Memory.{Memory}
+use Rattle.ec20.specs.Step.{World, stepOf}
+use Rattle.ec20.specs.Scan.{Scan, startWorld}
+
+-- the world after k steps of the definition, from the start of a scan on the memory c, with e elapsed units
+unfoldable pub afterSteps : Program → ℕ → Memory → ℕ → World
+afterSteps p e c zero = startWorld c
+afterSteps p e c (suc k) = stepOf p e (afterSteps p e c k)
+
+-- "the steps, the record stopped at (END, or the one due), and the first error with its record"
+abbrev pub reportOf : ℕ → Machine → Report
+reportOf k s = record { steps = k; stop = s .pc; error = s .error; at = s .at }
+
+-- the answer after k steps of a budget of b: ended, if END was executed; watchdog, if the budget is used and a record is due
+pub data Answer (b k : ℕ) (s : Machine) : Scanned → Type 0 where
+  ended : s .ended ≡ 1 → Answer b k s (Ended (reportOf k s))
+  watchdog : s .ended ≡ 0 → k ≡ b → Answer b k s (Watchdog (reportOf k s))
+
+-- The scan s is a run of so many steps of the definition: none is made after END, none beyond the budget b, and answer and memory are as
+-- "after exactly those steps".
+pub record Counted (p : Program) (e b : ℕ) (c : Memory) (s : Scan) : Type 0 where
+  pub steps : ℕ
+  pub in-budget : steps ≤ b
+  pub before : (j : ℕ) → j < steps → afterSteps p e c j .st .ended ≡ 0
+  pub answer : Answer b steps (afterSteps p e c steps .st) (s .answer)
+  pub memory : s .mem ≡ afterSteps p e c steps .mem

@@ -1,0 +1,37 @@
+-- The numbers told of an answer by any name of it, and what was lent. Assumes nothing.
+use Prim.Native.Nat.{ℕ}
+use mathlib.Core.List.{List}
+use mathlib.Core.Path.{_≡_, sym, ap, _∙_}
+use lib.IntN.{ℤ}
+use Rattle.ec20.specs.Answers.{Told, toldByCheck, toldByMove, toldByExchange}
+use Rattle.ec20.specs.Exchange.{Exchange}
+use Rattle.ec20.specs.Move.{Move, move}
+use Rattle.ec20.specs.declared.Exchanged.{Exchanged}
+use Rattle.ec20.specs.declared.Mapped.{Mapped}
+use Rattle.ec20.specs.declared.Moved.{Moved}
+use Rattle.ec20.specs.declared.Verdict.{Verdict}
+
+-- two names of one verdict tell the same four numbers
+pub tells : {r u v : Verdict} → r ≡ v → r ≡ u
+    → (toldByCheck u .number ≡ toldByCheck v .number) × ((toldByCheck u .at ≡ toldByCheck v .at)
+    × ((toldByCheck u .records ≡ toldByCheck v .records) × (toldByCheck u .steps ≡ toldByCheck v .steps)))
+tells {u = u} {v = v} e f = let p : toldByCheck u ≡ toldByCheck v = ap toldByCheck (sym f ∙ e) in (ap (λ t. t .number) p, (ap (λ t. t .at) p, (ap (λ t. t .records) p, ap (λ t. t .steps) p)))
+
+-- the four parts of a map
+pub mapped : {m v : Mapped} → m ≡ v → (m .number ≡ v .number) × ((m .at ≡ v .at) × ((m .read ≡ v .read) × (m .written ≡ v .written)))
+mapped e = (ap (λ t. t .number) e, (ap (λ t. t .at) e, (ap (λ t. t .read) e, ap (λ t. t .written) e)))
+
+-- the file after a move, and its three numbers
+pub moved : {r u : Moved} {f : List ℕ} {s : Move} → move r f ≡ s → r ≡ u
+    → (f ≡ s .file) × ((toldByMove u .number ≡ toldByMove (s .answer) .number) × ((toldByMove u .at ≡ toldByMove (s .answer) .at)
+    × (toldByMove u .place ≡ toldByMove (s .answer) .place)))
+moved {u = u} {s = s} e f =
+    let p : toldByMove u ≡ toldByMove (s .answer) = ap toldByMove (sym f ∙ ap (λ (x : Move). x .answer) e) in
+    (ap (λ (x : Move). x .file) e, (ap (λ t. t .number) p, (ap (λ t. t .at) p, ap (λ t. t .place) p)))
+
+-- the table after an exchange, and its two numbers
+pub exchanged : {r u : Exchanged} {d : List ℤ} {s : Exchange} → record { answer = r; words = d } ≡ s → r ≡ u
+    → (d ≡ s .words) × ((toldByExchange u .number ≡ toldByExchange (s .answer) .number) × (toldByExchange u .at ≡ toldByExchange (s .answer) .at))
+exchanged {u = u} {s = s} e f =
+    let p : toldByExchange u ≡ toldByExchange (s .answer) = ap toldByExchange (sym f ∙ ap (λ (x : Exchange). x .answer) e) in
+    (ap (λ (x : Exchange). x .words) e, (ap (λ t. t .number) p, ap (λ t. t .at) p))

@@ -1,2 +1,0 @@
--- What the seven numbers tell.
-pub mod SevenLaws

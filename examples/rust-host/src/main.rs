@@ -1,0 +1,124 @@
+//! A host in Rust: it checks a program, scans it, prints which words of a block it uses, moves the block, exchanges its words, and scans again.
+//! The two scans do the same. The program stands in memory; a real host reads it from a file.
+
+mod ninhalto;
+
+use ninhalto::{Memory, Refusal, Told, UseMap};
+
+const BLOCK: u32 = 100;
+const LENGTH: u32 = 10;
+const POOL: u32 = 200;
+const POOL_END: u32 = 300;
+
+const CONSTANT: u8 = 1;
+const Y: u8 = 3;
+const SM: u8 = 5;
+const D: u8 = 7;
+
+/// A record: its instruction, then kind and value of its operands.
+fn record(instruction: u8, operands: &[(u8, u32)]) -> Vec<u8> {
+    let mut bytes = vec![instruction, 0];
+    for &(kind, value) in operands {
+        bytes.extend([kind, 0]);
+        bytes.extend(value.to_le_bytes());
+    }
+    bytes.resize(20, 0);
+    bytes
+}
+
+/// LD SM0, INC D100, ADD D100 1000 D104, DIV D104 7 D106, LD> D104 500, OUT Y3, END
+fn compose() -> Vec<u8> {
+    let records = [
+        record(1, &[(SM, 0)]),
+        record(37, &[(D, 100)]),
+        record(33, &[(D, 100), (CONSTANT, 1000), (D, 104)]),
+        record(35, &[(D, 104), (CONSTANT, 7), (D, 106)]),
+        record(16, &[(D, 104), (CONSTANT, 500)]),
+        record(12, &[(Y, 3)]),
+        record(23, &[]),
+    ];
+    let mut file = records.concat();
+    file.extend(1u16.to_le_bytes());
+    file.extend((records.len() as u16).to_le_bytes());
+    file.extend((20 * records.len() as u32 + 8).to_le_bytes());
+    file
+}
+
+fn check(file: &[u8]) -> bool {
+    match ninhalto::check(file) {
+        Ok((records, steps)) => println!("accepted records {records} steps {steps}"),
+        Err(Refusal { number, record }) => {
+            println!("refused {number} record {record}");
+            return false;
+        }
+    }
+    true
+}
+
+fn scan(file: &[u8], memory: &mut Memory) -> Told {
+    let told = ninhalto::scan(file, memory, 1, 1000);
+    let [number, at, kind, steps, stop, error, error_at] = told;
+    println!("refusal {number} at {at}, kind {kind}, steps {steps}, stopped at {stop}, error {error} at {error_at}");
+    told
+}
+
+fn marks(map: &UseMap, word: u32) -> &'static str {
+    let bit = |table: &[u8]| table[word as usize / 8] >> (word % 8) & 1 == 1;
+    match (bit(&map.read), bit(&map.written)) {
+        (false, false) => "",
+        (true, false) => "read",
+        (false, true) => "written",
+        (true, true) => "read written",
+    }
+}
+
+/// The longest runs of words of the block with the same marks.
+fn print_runs(map: &UseMap) {
+    let mut from = BLOCK;
+    while from < BLOCK + LENGTH {
+        let here = marks(map, from);
+        let end = (from..BLOCK + LENGTH).find(|&word| marks(map, word) != here).unwrap_or(BLOCK + LENGTH);
+        if !here.is_empty() {
+            println!("D{from} to D{} {here}", end - 1);
+        }
+        from = end;
+    }
+}
+
+fn exchange(memory: &mut Memory, place: u32) -> Result<(), Refusal> {
+    ninhalto::exchange(&mut memory.d, BLOCK, LENGTH, place)?;
+    println!("exchange: refusal 0 at 0");
+    Ok(())
+}
+
+fn print_words(memory: &Memory, from: u32) {
+    let words = &memory.d[from as usize..(from + LENGTH) as usize];
+    println!("{}", words.iter().map(i16::to_string).collect::<Vec<_>>().join(" "));
+}
+
+fn main() -> Result<(), Refusal> {
+    let file = compose();
+    check(&file[..file.len() - 1]);
+    check(&file);
+    let mut before =
+        Memory { x: [0; 32], y: [0; 32], m: [0; 250], sm: [0; 32], t: [0; 32], d: [0; 8000], tv: [0; 256] };
+    before.d[BLOCK as usize] = 41;
+    before.d[POOL as usize] = 77;
+    let (mut moved, mut after) = (file.clone(), before.clone());
+    let told = scan(&file, &mut before);
+    print_words(&before, BLOCK);
+    print_runs(&ninhalto::use_map(&file)?);
+    let place = ninhalto::move_block(&mut moved, BLOCK, LENGTH, POOL, POOL_END)?;
+    println!("move: refusal 0 at 0, place {place}");
+    check(&moved);
+    exchange(&mut after, place)?;
+    let told_after = scan(&moved, &mut after);
+    print_words(&after, place);
+    exchange(&mut after, place)?;
+    if told != told_after || before != after {
+        println!("the moved program does otherwise");
+        std::process::exit(1);
+    }
+    println!("the moved program does the same");
+    Ok(())
+}

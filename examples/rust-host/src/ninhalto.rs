@@ -1,0 +1,90 @@
+//! The functions of libhost.a (include/ninhalto.h) as safe ones: borrows say what overlaps, and slices are never null.
+
+/// The memory of a controller.
+#[derive(Clone, PartialEq)]
+pub struct Memory {
+    pub x: [u8; 32],
+    pub y: [u8; 32],
+    pub m: [u8; 250],
+    pub sm: [u8; 32],
+    pub t: [u8; 32],
+    pub d: [i16; 8000],
+    pub tv: [i16; 256],
+}
+
+/// The number of a refusal and its record.
+#[derive(Debug)]
+pub struct Refusal {
+    pub number: usize,
+    pub record: usize,
+}
+
+/// Seven numbers: refusal, record; 1 ended, 2 watchdog; steps, record stopped at, first error, its record.
+pub type Told = [usize; 7];
+
+pub struct UseMap {
+    pub read: [u8; 1000],
+    pub written: [u8; 1000],
+}
+
+extern "C" {
+    fn ninhalto_check(f: *const u8, size: usize, number: &mut usize, at: &mut usize, records: &mut usize, steps: &mut usize);
+    fn ninhalto_scan(
+        f: *const u8, size: usize, x: *const u8, x_size: usize, y: *mut u8, y_size: usize, m: *mut u8, m_size: usize,
+        sm: *mut u8, sm_size: usize, t: *mut u8, t_size: usize, d: *mut i16, d_size: usize, tv: *mut i16, tv_size: usize,
+        elapsed: u32, budget: u32, told: &mut Told,
+    );
+    fn ninhalto_map(f: *const u8, size: usize, number: &mut usize, at: &mut usize, read: &mut [u8; 1000], written: &mut [u8; 1000]);
+    fn ninhalto_move(
+        f: *mut u8, size: usize, start: u32, length: u32, from: u32, end: u32,
+        number: &mut usize, at: &mut usize, place: &mut usize,
+    );
+    fn ninhalto_exchange(d: *mut i16, size: usize, start: u32, length: u32, place: u32, number: &mut usize, at: &mut usize);
+}
+
+fn answer<T>(number: usize, record: usize, value: T) -> Result<T, Refusal> {
+    if number == 0 {
+        Ok(value)
+    } else {
+        Err(Refusal { number, record })
+    }
+}
+
+/// The count of records, and the most steps that a scan can make.
+pub fn check(file: &[u8]) -> Result<(usize, usize), Refusal> {
+    let (mut number, mut at, mut records, mut steps) = (0, 0, 0, 0);
+    unsafe { ninhalto_check(file.as_ptr(), file.len(), &mut number, &mut at, &mut records, &mut steps) }
+    answer(number, at, (records, steps))
+}
+
+pub fn scan(file: &[u8], c: &mut Memory, elapsed: u32, budget: u32) -> Told {
+    let mut told = [0; 7];
+    unsafe {
+        ninhalto_scan(
+            file.as_ptr(), file.len(), c.x.as_ptr(), c.x.len(), c.y.as_mut_ptr(), c.y.len(), c.m.as_mut_ptr(), c.m.len(),
+            c.sm.as_mut_ptr(), c.sm.len(), c.t.as_mut_ptr(), c.t.len(), c.d.as_mut_ptr(), c.d.len(), c.tv.as_mut_ptr(), c.tv.len(),
+            elapsed, budget, &mut told,
+        )
+    }
+    told
+}
+
+pub fn use_map(file: &[u8]) -> Result<UseMap, Refusal> {
+    let (mut number, mut at) = (0, 0);
+    let mut map = UseMap { read: [0; 1000], written: [0; 1000] };
+    unsafe { ninhalto_map(file.as_ptr(), file.len(), &mut number, &mut at, &mut map.read, &mut map.written) }
+    answer(number, at, map)
+}
+
+/// Where the place begins; the file is changed where it is lent.
+pub fn move_block(file: &mut [u8], start: u32, length: u32, from: u32, end: u32) -> Result<u32, Refusal> {
+    let (mut number, mut at, mut place) = (0, 0, 0);
+    unsafe { ninhalto_move(file.as_mut_ptr(), file.len(), start, length, from, end, &mut number, &mut at, &mut place) }
+    answer(number, at, place as u32)
+}
+
+pub fn exchange(d: &mut [i16], start: u32, length: u32, place: u32) -> Result<(), Refusal> {
+    let (mut number, mut at) = (0, 0);
+    unsafe { ninhalto_exchange(d.as_mut_ptr(), d.len(), start, length, place, &mut number, &mut at) }
+    answer(number, at, ())
+}

@@ -1,0 +1,101 @@
+/* Ninhalto for C: check, scan, use map, move and exchange of programs of the EC20 series.
+
+   The library is target/staticlib/libhost.a, which `rt staticlib host` proves and writes, for x86-64. Each function is proved to do, for every
+   input, what its definition says (crates/host/src, crates/ec20/specs); the words here say the same in short.
+
+   Of every function:
+   - It asks nothing of file, tables and numbers: any bytes, any lengths, any values. What does not fit is refused.
+   - A pointer and the size_t after it are one lent part: so many bytes (of d and tv: so many words) can be read there, and written if it is not
+     const. No pointer is NULL, also where the length is 0. A word stands at an even address, a size_t at a multiple of 8.
+   - Lent parts that are written overlap no other. x and file, which are only read, may be one.
+   - It writes what is named as written, and nothing else. It does not allocate, keeps nothing between calls, has no global state, calls nothing
+     of the host or the system, and always ends. It may be called from any thread, over different lent parts at the same time.
+
+   number: 0, or the number of a refusal. at: the record told, counted from 0; 0 where there is none.
+
+   No.  When                                                                                         Record told
+     1  the file is under 8 bytes, or its edition, count, distance or comment length is wrong        0
+     2  an unknown instruction, or a spare byte that is not 0                                        it
+     3  an operand that the instruction does not allow, or an unused one that is not zero            it
+     4  a target that meets WORK, D7900 to D7999                                                     it
+     5  the rung rule is broken                                                                      the first
+     6  NEXT with no FOR open, a ninth open FOR, END not last; the last not END, or a FOR open there the first
+     7  a label set twice, or a CJ whose label does not stand where it must                          the first
+     8  more than 10,000,000 steps                                                                   0
+     9  a table of a wrong size, or elapsed above 32767                                              0
+    10  the block is empty or not inside D                                                           0
+    11  the pool's start is above its end, or its end above 8000                                     0
+    12  the block meets WORK                                                                         0
+    13  an operand's words are partly in the block                                                   the first
+    14  no place                                                                                     0
+
+   The check gives 1 to 8, the scan 1 to 9, the map 1 to 8, the move 1 to 8 and 10 to 14, the exchange 9, 10, 12 and 14; the first that holds in
+   this order (2, 3 and 4: of the first record that breaks one of them). A refused call leaves file and tables as they were. */
+#ifndef NINHALTO_H
+#define NINHALTO_H
+
+#include <stddef.h>
+#include <stdint.h>
+
+#ifdef __cplusplus
+extern "C" {
+#endif
+
+/* The sizes of the tables: of bits in bytes, eight bits to a byte, the lowest number in the lowest bit; of D and T in words. */
+enum {
+    NINHALTO_X = 32,
+    NINHALTO_Y = 32,
+    NINHALTO_M = 250,
+    NINHALTO_SM = 32,
+    NINHALTO_T = 32,
+    NINHALTO_D = 8000,
+    NINHALTO_TV = 256,
+    NINHALTO_MAP = 1000
+};
+
+/* What the scan tells, by place in told. */
+enum {
+    NINHALTO_TOLD_NUMBER,   /* the refusal, or 0 */
+    NINHALTO_TOLD_AT,       /* its record */
+    NINHALTO_TOLD_KIND,     /* 0 refused, 1 ended at END, 2 watchdog: the budget was used and a record is due */
+    NINHALTO_TOLD_STEPS,    /* the steps made, at most the budget */
+    NINHALTO_TOLD_STOP,     /* the record stopped at: END, or the one due */
+    NINHALTO_TOLD_ERROR,    /* the first error: 1 zero divisor, 2 value out of range; 0 none */
+    NINHALTO_TOLD_ERROR_AT, /* its record */
+    NINHALTO_TOLD
+};
+
+/* The check of a file. Writes number and at; records, the count of records, and steps, the most steps that a scan can make: both 0 where the
+   file is refused. */
+void ninhalto_check(const uint8_t *file, size_t file_size, size_t *number, size_t *at, size_t *records, size_t *steps);
+
+/* A scan of a file over the lent memory: elapsed units of 100 ms, 0 to 32767, and a budget of steps. Writes told and, unless refused, the
+   tables: they are as after exactly the steps told. x is only read. */
+void ninhalto_scan(const uint8_t *file, size_t file_size, const uint8_t *x, size_t x_size, uint8_t *y, size_t y_size, uint8_t *m, size_t m_size,
+                   uint8_t *sm, size_t sm_size, uint8_t *t, size_t t_size, int16_t *d, size_t d_size, int16_t *tv, size_t tv_size,
+                   uint32_t elapsed, uint32_t budget, size_t told[NINHALTO_TOLD]);
+
+/* The same with a budget of 1,000,000 steps. */
+void ninhalto_scan_unbudgeted(const uint8_t *file, size_t file_size, const uint8_t *x, size_t x_size, uint8_t *y, size_t y_size, uint8_t *m,
+                              size_t m_size, uint8_t *sm, size_t sm_size, uint8_t *t, size_t t_size, int16_t *d, size_t d_size, int16_t *tv,
+                              size_t tv_size, uint32_t elapsed, size_t told[NINHALTO_TOLD]);
+
+/* The use map of a file. Writes number and at, and all 1,000 bytes of each map, one bit for each D word, packed as the tables of bits are: set in
+   read exactly if some source holds the word, in written exactly if some target does. Both are all 0 where the file is refused. */
+void ninhalto_map(const uint8_t *file, size_t file_size, size_t *number, size_t *at, uint8_t read[NINHALTO_MAP], uint8_t written[NINHALTO_MAP]);
+
+/* The move of the block of `length` D words from `start` on to the lowest free place in the pool, the words from `from` to `end`, end excluded.
+   Writes number and at; place, where the place begins, 0 if refused; and, unless refused, in the file each D number that lies in the block,
+   raised or lowered by the distance. The file keeps its length and every other byte. */
+void ninhalto_move(uint8_t *file, size_t file_size, uint32_t start, uint32_t length, uint32_t from, uint32_t end, size_t *number, size_t *at,
+                   size_t *place);
+
+/* The exchange: the words of the block and those of the place, as long as the block, change places in the D table. Writes number and at and, unless
+   refused, these words. It does not read a file: that the place is free is the move's to say. */
+void ninhalto_exchange(int16_t *d, size_t d_size, uint32_t start, uint32_t length, uint32_t place, size_t *number, size_t *at);
+
+#ifdef __cplusplus
+}
+#endif
+
+#endif
