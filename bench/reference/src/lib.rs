@@ -1,6 +1,8 @@
-//! The check of the reference as a function that C can call.
+//! The check, the move and the use map of the reference as functions that C can call.
 
 use ninhalto_reference::check::check;
+use ninhalto_reference::mover::{move_block, Block, Pool};
+use ninhalto_reference::usemap::use_map;
 
 /// # Safety
 /// `file` holds `size` bytes, and `out` is free to write.
@@ -11,4 +13,47 @@ pub unsafe extern "C" fn reference_check(file: *const u8, size: usize, out: *mut
         Err(refusal) => [u64::from(refusal.number), u64::from(refusal.record), 0, 0],
     };
     *out = told;
+}
+
+/// # Safety
+/// `file` holds `size` bytes, and both it and `told` are free to write.
+#[no_mangle]
+pub unsafe extern "C" fn reference_move(
+    file: *mut u8,
+    size: usize,
+    start: u32,
+    length: u32,
+    from: u32,
+    end: u32,
+    told: *mut [usize; 3],
+) {
+    let file = std::slice::from_raw_parts_mut(file, size);
+    *told = match move_block(file, Block { start, length }, Pool { start: from, end }) {
+        Ok(place) => [0, 0, place as usize],
+        Err(refusal) => [refusal.number as usize, refusal.record as usize, 0],
+    };
+}
+
+/// # Safety
+/// `file` holds `size` bytes, and the other three are free to write.
+#[no_mangle]
+pub unsafe extern "C" fn reference_map(
+    file: *const u8,
+    size: usize,
+    told: *mut [usize; 2],
+    read: *mut [u8; 1000],
+    written: *mut [u8; 1000],
+) {
+    match use_map(std::slice::from_raw_parts(file, size)) {
+        Ok(map) => {
+            *told = [0, 0];
+            *read = map.read;
+            *written = map.written;
+        }
+        Err(refusal) => {
+            *told = [refusal.number as usize, refusal.record as usize];
+            *read = [0; 1000];
+            *written = [0; 1000];
+        }
+    }
 }

@@ -2,11 +2,10 @@
 use ec20::Verdict;
 use records::u32_at;
 
-// What came of a case, with the number of the verdict that the checker gave: 0 for accepted.
-pub enum Judged {
-    Agrees(usize),
-    Differs(usize),
-    Cut,
+// What came of a case: whether the verdict is the one wanted, and its number, 0 for accepted.
+pub struct Judged {
+    pub agrees: bool,
+    pub number: usize,
 }
 
 // The numbers after the length: refusal (0 for accepted), record told, records, steps.
@@ -36,31 +35,28 @@ fn number_of(v: Verdict) -> usize {
     }
 }
 
-// The file of a case is as long as the bytes that are lent for it.
+// The file of a case is as long as the bytes that are lent for it. One that ends early differs.
 fn judge(fd: i32, h: &[u8; 20], file: &mut [u8]) -> Judged {
     let got = io::read_full(fd, file);
-    if got < file.len() {
-        return Judged::Cut;
-    }
+    let whole = got == file.len();
     let v = checker::check(file);
-    if same(v, h) {
-        Judged::Agrees(number_of(v))
-    } else {
-        Judged::Differs(number_of(v))
+    Judged {
+        agrees: whole & same(v, h),
+        number: number_of(v),
     }
 }
 
-// No file in a case is longer than 44,125 bytes: a longer one is told as cut.
+// No file in a case is longer than 44,125 bytes: a longer one differs.
 pub fn next(fd: i32) -> Judged {
     let mut h = [0u8; 20];
-    let got = io::read_full(fd, &mut h);
-    if got < 20 {
-        return Judged::Cut;
-    }
+    io::read_full(fd, &mut h);
     let size = u32_at(&h, 0);
     let mut buf = io::large_buffer();
     if size > 65536 {
-        return Judged::Cut;
+        return Judged {
+            agrees: false,
+            number: 0,
+        };
     }
     judge(fd, &h, &mut buf[..size])
 }

@@ -1,36 +1,17 @@
 // A case: the file, the memory before, what is asked, what is wanted.
-ghost use Prim.Native.Nat.{_≤_};
 use crate::before;
 use crate::judge;
 use crate::judge::Answer;
 use crate::lent::Asked;
-use crate::reading;
 use crate::tables;
+use cases::bytes;
+use cases::reading;
 
 // What came of a case: whether the scan gave what is wanted, what that was, and the budget.
 pub struct Judged {
     pub agrees: bool,
     pub want: Answer,
     pub budget: u32,
-}
-
-// The file field: the bytes of a file, or the one of the case before, which was so long. No file in a case is longer than the buffer.
-pub fn file_field(fd: i32, file: &mut [u8; 65536], size: usize) -> usize
-    requires { ⌜ size ≤ 65536 ⌝ }
-    ensures { λ r. ⌜ r ≤ 65536 ⌝ }
-{
-    let n = reading::u32_from(fd);
-    if n > 65536 {
-        return size;
-    }
-    read_file(fd, file, n);
-    n
-}
-
-fn read_file(fd: i32, file: &mut [u8], n: usize) {
-    if n <= file.len() {
-        io::read_full(fd, &mut file[..n]);
-    }
 }
 
 fn read_asked(fd: i32, table: u8, way: u8) -> Asked {
@@ -64,39 +45,6 @@ fn wanted(fd: i32) -> Answer {
     }
 }
 
-fn wide(b: u8) -> u32 {
-    b as u32
-}
-
-// Sums of the checksum, below 65521.
-fn sum(a: u32, b: u32) -> u32 {
-    ((a as u64 + b as u64) % 65521) as u32
-}
-
-fn joined(two: u32, one: u32) -> u64 {
-    two as u64 * 65536 + one as u64
-}
-
-fn checksum(b: &[u8; 16890]) -> u64 {
-    let mut one: u32 = 1;
-    let mut two: u32 = 0;
-    let mut i = 0;
-    while i < 16890 {
-        one = sum(one, wide(b[i]));
-        two = sum(two, one);
-        i += 1;
-    }
-    joined(two, one)
-}
-
-fn copy(from: &[u8; 16890], to: &mut [u8; 16890]) {
-    let mut i = 0;
-    while i < 16890 {
-        to[i] = from[i];
-        i += 1;
-    }
-}
-
 // The scan with its budget and, where that is 1,000,000, the one that takes none too.
 fn both_agree(f: &[u8], a: Asked, image: &[u8; 16890], want: Answer, after: &[u8; 16890]) -> bool {
     let mut plain = a;
@@ -119,12 +67,12 @@ pub fn next(fd: i32, file: &[u8; 65536], n: usize, image: &mut [u8; 16890]) -> J
     let a = read_asked(fd, table, way);
     let want = wanted(fd);
     let mut after = tables::image();
-    copy(image, &mut after);
+    bytes::copy(image, &mut after);
     before::patch(fd, &mut after);
     let told = reading::u32_from(fd) as u64;
     let same = part_agrees(file, n, a, image, want, &after);
-    let summed = checksum(&after) == told;
-    copy(&after, image);
+    let summed = bytes::checksum(&after) == told;
+    bytes::copy(&after, image);
     Judged {
         agrees: same & summed,
         want,

@@ -2,12 +2,7 @@
 // 13 to 15 a budget of 0, of 1, of the largest number; 16 ended with the last step of the budget; 17 also called without a budget.
 use crate::case::Judged;
 use crate::judge::Answer;
-
-fn one_more(met: &mut [usize; 18], k: usize) {
-    if k < 18 {
-        met[k] = std::num::wrapping_add_usize(met[k], 1);
-    }
-}
+use cases::told::one_more;
 
 fn add_answer(met: &mut [usize; 18], w: Answer) {
     let number = w.number;

@@ -2,6 +2,7 @@
 use crate::lent;
 use crate::lent::Asked;
 use crate::tables;
+use cases::bytes;
 use ec20::Report;
 use ec20::Scanned;
 
@@ -55,20 +56,6 @@ fn same_answer(a: Answer, b: Answer) -> bool {
         & (a.at == b.at)
 }
 
-pub fn same_bytes(a: &[u8], b: &[u8]) -> bool {
-    if a.len() != b.len() {
-        return false;
-    }
-    let mut i = 0;
-    while i < a.len() {
-        if a[i] != b[i] {
-            return false;
-        }
-        i += 1;
-    }
-    true
-}
-
 // What stands past the last entry of each table was 0 and still is.
 fn past_is_zero(
     y: &[u8; 33],
@@ -103,5 +90,5 @@ pub fn agrees(f: &[u8], a: Asked, image: &[u8; 16890], want: Answer, after: &[u8
     let s = lent::scan(f, a, &x, &mut y, &mut m, &mut sm, &mut t, &mut d, &mut tv);
     let mut left = tables::image();
     image::join(&x, &y, &m, &sm, &t, &d, &tv, &mut left);
-    same_answer(told(s), want) & same_bytes(&left, after) & past_is_zero(&y, &m, &sm, &t, &d, &tv)
+    same_answer(told(s), want) & bytes::same(&left, after) & past_is_zero(&y, &m, &sm, &t, &d, &tv)
 }

@@ -5,20 +5,10 @@ mod case;
 mod counts;
 mod judge;
 mod lent;
-mod reading;
 mod tables;
 mod told;
 
-// How many cases the file says that there are; none where it has another head.
-fn cases(fd: i32) -> usize {
-    let mut h = [0u8; 12];
-    let got = io::read_full(fd, &mut h);
-    let named = (h[0] == b'N') & (h[1] == b'H') & (h[2] == b'V') & (h[3] == b'1');
-    if named & (got == 12) & (records::u32_at(&h, 4) == 3) {
-        return records::u32_at(&h, 8);
-    }
-    0
-}
+use cases::reading;
 
 // The n cases. The file and the image are those of the case before, where a case says so.
 fn section(
@@ -32,16 +22,16 @@ fn section(
     let mut differ: usize = 0;
     let mut size: usize = 0;
     while i < n {
-        size = case::file_field(fd, file, size);
+        size = reading::file_field(fd, file, size);
         let c = case::next(fd, file, size, image);
         counts::add(met, c);
         if !c.agrees {
-            told::differs(i, differ);
+            cases::told::differs(b"scan", i, differ);
             differ += 1;
         }
         i += 1;
     }
-    told::total(i - differ, differ);
+    cases::told::total(b"scans", i - differ, differ);
 }
 
 fn run(fd: i32, n: usize) {
@@ -50,7 +40,7 @@ fn run(fd: i32, n: usize) {
     let mut met = [0usize; 18];
     section(fd, n, &mut file, &mut image, &mut met);
     told::counts(&met);
-    told::ended(reading::at_end(fd));
+    cases::told::ended(reading::at_end(fd));
 }
 
 fn main() {
@@ -60,6 +50,6 @@ fn main() {
         os::fail(name);
         return;
     }
-    run(fd, cases(fd));
+    run(fd, reading::head(fd, 3));
     libc::close(fd);
 }

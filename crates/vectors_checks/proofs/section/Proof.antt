@@ -7,13 +7,13 @@ use Rattle.vectors_checks.proofs.section.Statement.{statement}
 use Rattle.vectors_checks.proofs.section.Tie as tie
 
 abbrev Inv-loop : tie.InvT-loop
-Inv-loop fd n met₀ i₀ differ₀ met i differ = (differ ≤ i) × (i ≤ n)
+Inv-loop fd n met₀ i₀ differ₀ t7 t8 met i differ = (differ ≤ i) × (i ≤ n)
 
 abbrev μ-loop : tie.MeasureT-loop
-μ-loop fd n met₀ i₀ differ₀ met i differ = n - i
+μ-loop fd n met₀ i₀ differ₀ t7 t8 met i differ = n - i
 
 loop-again : tie.Need-loop-again Inv-loop μ-loop
-loop-again c = ⊎-elim (λ w. omega arith) (λ w. omega arith) (c .match .came)
+loop-again c = ⊎-elim (λ w. omega arith) (λ w. omega arith) (c .if1 .came)
 
 pub section-spec : {M : Type 1} → statement M
 section-spec =
@@ -23,18 +23,14 @@ section-spec =
     μ-loop
     (λ c. search needs)
     (λ c κs. search needs)
-    (λ c. search needs)
     (λ c κs. search needs)
-    (λ c. search needs)
-    (λ c κs. search needs)
-    (λ c κs. search needs)
-    (λ c. search needs)
     (λ c. search needs)
     (λ c κs. search needs)
     (λ c. search needs)
     (λ c. search needs)
     (λ c. search needs)
     loop-again
+    (λ c. search needs)
     (λ c. search needs)
     (λ c κs. search needs)
     (λ c. search needs))

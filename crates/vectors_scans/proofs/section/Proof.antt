@@ -7,10 +7,10 @@ use Rattle.vectors_scans.proofs.section.Statement.{statement}
 use Rattle.vectors_scans.proofs.section.Tie as tie
 
 abbrev Inv-loop : tie.InvT-loop
-Inv-loop fd n file₀ image₀ met₀ i₀ differ₀ size₀ file image met i differ size = (differ ≤ i) × (i ≤ n) × (size ≤ 65536)
+Inv-loop fd n file₀ image₀ met₀ i₀ differ₀ size₀ t10 t11 file image met i differ size = (differ ≤ i) × (i ≤ n)
 
 abbrev μ-loop : tie.MeasureT-loop
-μ-loop fd n file₀ image₀ met₀ i₀ differ₀ size₀ file image met i differ size = n - i
+μ-loop fd n file₀ image₀ met₀ i₀ differ₀ size₀ t10 t11 file image met i differ size = n - i
 
 loop-again : tie.Need-loop-again Inv-loop μ-loop
 loop-again c = ⊎-elim (λ w. omega arith) (λ w. omega arith) (c .if1 .came)
@@ -25,11 +25,13 @@ section-spec =
     (λ c κs. search needs)
     (λ c κs. search needs)
     (λ c κs. search needs)
+    (λ c. search needs)
     (λ c κs. search needs)
     (λ c. search needs)
     (λ c. search needs)
     (λ c. search needs)
     loop-again
+    (λ c. search needs)
     (λ c. search needs)
     (λ c κs. search needs)
     (λ c. search needs))

@@ -1,17 +1,12 @@
 -- The size is at most the length of the buffer. Assumes nothing.
-use Prim.Native.Nat.{_≤_}
 use native.Mathlib.Omega.{arith}
-use lib.ListN.{length, length-take}
+use lib.ListN.{length-take}
 use borrow.Author.Needs.{needs}
 use Rattle.vectors_checks.proofs.case.next.Statement.{statement}
 use Rattle.vectors_checks.proofs.case.next.Tie as tie
 
 slice-aggregate-judge : tie.Need-slice-aggregate-judge
-slice-aggregate-judge c =
-    let b = c .before .before .before .large-buffer in
-    let size = c .before .before .before .before .u32-at .result in
-    let l : size ≤ length (b .result) = omega (arith, b .ensures) in
-    simp length-take (omega arith)
+slice-aggregate-judge c = simp length-take (omega arith)
 
 pub next-spec : {M : Type 1} → statement M
 next-spec =
@@ -19,7 +14,6 @@ next-spec =
     (tie.spec
     (λ c. search needs)
     (λ c κs. search needs)
-    (λ c. search needs)
     (λ c. search needs)
     (λ c κs. search needs)
     (λ c κs. search needs)
