@@ -1,4 +1,4 @@
-/* stack: how many bytes of stack each function takes at most, on the files given. Each call runs on a painted stack of its own; what is no longer
+/* stack FILE..: how many bytes of stack each function takes at most, on a file whose check calls itself most deeply and on the files given. Each call runs on a painted stack of its own; what is no longer
    painted was used. */
 #include "../include/ninhalto.h"
 #include <stdio.h>
@@ -59,10 +59,38 @@ static size_t used(void (*run)(void)) {
     return STACK - free;
 }
 
+/* Eight loops, one in the other, with a NOP ahead of each inner one, so that each is entered from a sequence of its own. */
+static void deepest(void) {
+    enum { FOR = 19, NEXT = 20, END = 23, LOOPS = 8, RECORDS = 3 * LOOPS + 1 };
+    memset(file, 0, sizeof file);
+    for (int i = 0; i < LOOPS; i++) {
+        file[40 * i] = FOR;
+        file[40 * i + 2] = 1;
+        file[40 * i + 4] = 2;
+        file[40 * LOOPS + 20 * i] = NEXT;
+    }
+    file[60 * LOOPS] = END;
+    size = 20 * RECORDS + 8;
+    uint8_t *trailer = file + 20 * RECORDS;
+    trailer[0] = 1, trailer[2] = RECORDS, trailer[4] = (uint8_t)size, trailer[5] = (uint8_t)(size >> 8);
+}
+
+static void (*const run[])(void) = {check, scan, plain_scan, map, move, exchange};
+static size_t most[6];
+
+static void measure(void) {
+    for (int f = 0; f < 6; f++) {
+        size_t more = used(run[f]) - used(nothing);
+        if (more > most[f]) most[f] = more;
+    }
+}
+
 int main(int words, char **word) {
-    static void (*const run[])(void) = {check, scan, plain_scan, map, move, exchange};
     static const char *const name[] = {"check", "scan", "scan_unbudgeted", "map", "move", "exchange"};
-    size_t most[6] = {0};
+    deepest();
+    check();
+    if (number) return 1;
+    measure();
     for (int i = 1; i < words; i++) {
         FILE *in = fopen(word[i], "rb");
         if (!in) {
@@ -71,10 +99,7 @@ int main(int words, char **word) {
         }
         size = fread(file, 1, LONGEST, in);
         fclose(in);
-        for (int f = 0; f < 6; f++) {
-            size_t more = used(run[f]) - used(nothing);
-            if (more > most[f]) most[f] = more;
-        }
+        measure();
     }
     for (int f = 0; f < 6; f++) printf("%s %zu\n", name[f], most[f]);
     return 0;
