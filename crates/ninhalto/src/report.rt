@@ -67,6 +67,6 @@ pub fn refused(file: usize, number: usize, record: usize) {
 pub fn usage() {
     say(
         STDERR_FILENO,
-        b"usage: ninhalto check FILE, or ninhalto scan FILE MEMORY ELAPSED [BUDGET]\n",
+        b"usage: ninhalto check FILE, or ninhalto scan FILE MEMORY ELAPSED [BUDGET], or ninhalto trial OLD START LENGTH POOLSTART POOLEND MEMORY SCANS, or ninhalto demo\n",
     );
 }

@@ -1,0 +1,26 @@
+-- What is left of the words falls. Assumes nothing.
+use Prim.Native.Nat.{_≤_, _-_}
+use borrow.Author.Needs.{needs}
+use Rattle.ninhalto.proofs.runs.all.Statement.{statement}
+use Rattle.ninhalto.proofs.runs.all.Tie as tie
+
+abbrev Inv-loop : tie.InvT-loop
+Inv-loop read written i₀ i = i ≤ 8000
+
+abbrev μ-loop : tie.MeasureT-loop
+μ-loop read written i₀ i = 8000 - i
+
+pub all-spec : {M : Type 1} → statement M
+all-spec =
+    tie.close
+    (tie.spec
+    Inv-loop
+    μ-loop
+    (λ c. search needs)
+    (λ c κs. search needs)
+    (λ c κs. search needs)
+    (λ c. search needs)
+    (λ c κs. search needs)
+    (λ c. search needs)
+    (λ c. search needs)
+    (λ c. search needs))
