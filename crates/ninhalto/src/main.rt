@@ -1,6 +1,7 @@
 // The command ninhalto. Its first argument names what to do, and the module of that name does it. What it answers goes to standard
 // output; what it could not try, and what a refusal means, to standard error.
 mod check;
+mod demo;
 mod exchanges;
 mod files;
 mod map;
@@ -11,8 +12,11 @@ mod picture;
 mod ranges;
 mod report;
 mod scan;
+mod shown;
+mod side;
 mod tables;
 mod text;
+mod trial;
 mod words;
 
 // Whether the word after the command is --picture.
@@ -52,6 +56,10 @@ fn run(command: &[u8], words: usize) {
         moves::run();
     } else if text::same(command, b"exchange") & (words == 6) {
         exchanges::run();
+    } else if text::same(command, b"trial") & (words == 9) {
+        trial::run();
+    } else if text::same(command, b"demo") & (words == 4) {
+        demo::run();
     } else {
         report::usage();
     }

@@ -25,7 +25,7 @@ pub fn run_end(read: &[u8; 1000], written: &[u8; 1000], i: usize, k: usize) -> u
     end
 }
 
-fn runs(read: &[u8; 1000], written: &[u8; 1000]) {
+pub fn runs(read: &[u8; 1000], written: &[u8; 1000]) {
     let mut i = 0;
     while i < 8000 {
         let k = marks(read, written, i);

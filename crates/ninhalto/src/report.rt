@@ -93,6 +93,6 @@ pub fn mapped() {
 pub fn usage() {
     say(
         STDERR_FILENO,
-        b"usage: ninhalto check FILE, map [--picture] FILE, scan FILE MEMORY ELAPSED [BUDGET], move FILE START LENGTH POOLSTART POOLEND, exchange MEMORY START LENGTH PLACE, or help\n",
+        b"usage: ninhalto check FILE, map [--picture] FILE, scan FILE MEMORY ELAPSED [BUDGET], move FILE START LENGTH POOLSTART POOLEND, exchange MEMORY START LENGTH PLACE, trial OLD START LENGTH POOLSTART POOLEND MEMORY SCANS, demo, or help\n",
     );
 }

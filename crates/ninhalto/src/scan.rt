@@ -8,10 +8,10 @@ use crate::tables;
 use ec20::Scanned;
 
 // budget is not looked at where the call is plain, that is, has none.
-struct Asked {
-    elapsed: u32,
-    budget: u32,
-    plain: bool,
+pub struct Asked {
+    pub elapsed: u32,
+    pub budget: u32,
+    pub plain: bool,
 }
 
 fn call(
@@ -39,7 +39,7 @@ fn entries(size: usize) -> usize
 }
 
 // The scan over the memory of the image, which is then the one after it.
-fn scan(f: &[u8], a: Asked, image: &mut [u8; 16890], size: usize) -> Scanned {
+pub fn scan(f: &[u8], a: Asked, image: &mut [u8; 16890], size: usize) -> Scanned {
     let mut x = tables::bits();
     let mut y = tables::bits();
     let mut m = tables::m_bits();
