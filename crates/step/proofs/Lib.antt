@@ -1,4 +1,4 @@
 -- What a step's calls give, put together.
 pub mod WordLaws
 pub mod ExecLaws
-pub mod SmallLaws
+pub mod FormLaws

@@ -1,19 +1,21 @@
 // One step: the instructions over memory and state.
-ghost use Prim.Native.Nat.{ℕ, _<_, _≤_, _^_};
+ghost use Prim.Native.Nat.{ℕ, _+_, _<_, _≤_, _^_};
 ghost use Rattle.arith.specs.Bounded.{Bounded};
 ghost use Rattle.ec20.specs.Flow.{isOn, acted, contactOf, compareOf, coilOf};
 ghost use Rattle.ec20.specs.Memory.{memory, loadBit, loadOf};
 ghost use Rattle.ec20.specs.Numbers.{half};
-ghost use Rattle.ec20.specs.Code.{programIn};
+ghost use Rattle.ec20.specs.Basics.{pick};
+ghost use Rattle.ec20.specs.Code.{programIn, noOperand};
 ghost use Rattle.instructions.specs.Cells.{cells};
-ghost use Rattle.ec20.specs.File.{recordsFrom};
-ghost use Rattle.ec20.specs.Step.{World, world, widthOf, settle, wordOf, execOf, stepOf};
+ghost use Rattle.ec20.specs.File.{recordsFrom, operandAt};
+ghost use Rattle.ec20.specs.Step.{World, world, widthOf, settle, wordOf, stepOf};
 ghost use Rattle.step.specs.Ready.{Running, Due};
 ghost use Rattle.ec20.specs.Timers.{timerOf};
 ghost use lib.IntN.{ℤ};
+ghost use lib.Dec.{eqb};
+ghost use lib.ListN.{length};
 ghost use mathlib.Core.List.{List};
 ghost use mathlib.Core.Path.{_≡_};
-use ec20::Instr;
 use ec20::Machine;
 use ec20::Operand;
 use ec20::Outcome;
@@ -139,9 +141,40 @@ fn timer(
     flow::act(s)
 }
 
-// The instruction that is due, on memory and state.
-pub fn exec(
-    i: Instr,
+// The second source of a word instruction: none, but where the table has two.
+fn second_of(form: u8, f: &[u8], i: usize) -> Operand
+    requires { ⌜ (i < 50000) × (i + 20 ≤ length (now f)) ⌝ }
+    ensures { λ r. ⌜ (r ≡ pick (eqb form 12) (operandAt (now (f .entry)) (i + 8)) noOperand) × (r .value < 2 ^ 32) ⌝ }
+{
+    if form == 12 {
+        return records::operand_at(f, i + 8);
+    }
+    Operand {
+        kind: 0,
+        group: 0,
+        value: 0,
+    }
+}
+
+// Where the target stands: the third operand, the second, or the first, which is also read.
+fn target_at(form: u8, i: usize) -> usize
+    requires { ⌜ i < 50000 ⌝ }
+    ensures { λ r. ⌜ (r ≡ pick (eqb form 12) (i + 14) (pick (eqb form 13) (i + 8) (i + 2))) × (r ≤ i + 14) ⌝ }
+{
+    if form == 12 {
+        return i + 14;
+    }
+    if form == 13 {
+        return i + 8;
+    }
+    i + 2
+}
+
+// The record due, at byte i of the file, of number n and the form that the table gives it. Operands are read where the form has them.
+fn exec(
+    form: u8,
+    n: usize,
+    i: usize,
     rows: &[[u8; 11]; 56],
     f: &[u8],
     first: usize,
@@ -161,27 +194,57 @@ pub fn exec(
     s: Machine,
 ) -> Machine
     requires { ⌜ Running (now rows) (now f) first count (now nexts) (now places) e ⌝ }
-    requires { ⌜ Due (now f) first count i s ⌝ }
-    ensures { λ q. ⌜ world (memory (now (x .entry)) (now (y .exit)) (now (m .exit)) (now (sm .exit)) (now (t .exit)) (now (d .exit)) (now (tv .exit))) (now (left .exit)) (now (back .exit)) q ≡ execOf (programIn (recordsFrom (now (f .entry)) first count)) e i (world (memory (now (x .entry)) (now (y .entry)) (now (m .entry)) (now (sm .entry)) (now (t .entry)) (now (d .entry)) (now (tv .entry))) (now (left .entry)) (now (back .entry)) s) ⌝ }
+    requires { ⌜ Due (now f) first count form n i s ⌝ }
+    ensures { λ q. ⌜ world (memory (now (x .entry)) (now (y .exit)) (now (m .exit)) (now (sm .exit)) (now (t .exit)) (now (d .exit)) (now (tv .exit))) (now (left .exit)) (now (back .exit)) q ≡ stepOf (programIn (recordsFrom (now (f .entry)) first count)) e (world (memory (now (x .entry)) (now (y .entry)) (now (m .entry)) (now (sm .entry)) (now (t .entry)) (now (d .entry)) (now (tv .entry))) (now (left .entry)) (now (back .entry)) s) ⌝ }
 {
-    match i {
-        Instr::Nop => flow::go_on(s),
-        Instr::Contact(n, o) => contact(n, o, x, y, m, sm, t, s),
-        Instr::Compare(n, a, b) => compare(n, a, b, x, y, m, d, tv, s),
-        Instr::Join(n) => flow::join(n, s),
-        Instr::Branch(n) => flow::branch(n, s),
-        Instr::Coil(n, o) => coil(n, o, y, m, s),
-        Instr::Timer(k, c) => timer(e, k, c, t, tv, s),
-        Instr::For(c) => jumps::open_loop(c, nexts, left, back, s),
-        Instr::Next => jumps::close_loop(left, back, s),
-        Instr::Jump(l) => jumps::jump(f, first, count, places, l, s),
-        Instr::Label(_) => flow::go_to(s, s.pc + 1, s.depth),
-        Instr::End => flow::stop(s),
-        Instr::Word(n, a, b, u) => word(rows, n, a, b, u, x, y, m, sm, d, tv, s),
+    match form {
+        1 => contact(n, records::operand_at(f, i + 2), x, y, m, sm, t, s),
+        2 => flow::join(n, s),
+        3 => flow::branch(n, s),
+        4 => coil(n, records::operand_at(f, i + 2), y, m, s),
+        5 => compare(
+            n,
+            records::operand_at(f, i + 2),
+            records::operand_at(f, i + 8),
+            x,
+            y,
+            m,
+            d,
+            tv,
+            s,
+        ),
+        6 => timer(
+            e,
+            records::u32_at(f, i + 4),
+            records::u32_at(f, i + 10),
+            t,
+            tv,
+            s,
+        ),
+        7 => jumps::open_loop(records::u32_at(f, i + 4), nexts, left, back, s),
+        8 => jumps::close_loop(left, back, s),
+        9 => jumps::jump(f, first, count, places, records::u32_at(f, i + 4), s),
+        10 => flow::go_to(s, s.pc + 1, s.depth),
+        11 => flow::stop(s),
+        12 | 13 | 14 => word(
+            rows,
+            n,
+            records::operand_at(f, i + 2),
+            second_of(form, f, i),
+            records::operand_at(f, target_at(form, i)),
+            x,
+            y,
+            m,
+            sm,
+            d,
+            tv,
+            s,
+        ),
+        _ => flow::go_on(s),
     }
 }
 
-// One step: the record due is decoded and executed.
+// One step: the record due is executed; past the last record there is END.
 pub fn step(
     rows: &[[u8; 11]; 56],
     f: &[u8],
@@ -205,8 +268,15 @@ pub fn step(
     requires { ⌜ (s .depth ≤ 8) × (s .pc < 2 ^ 63) ⌝ }
     ensures { λ q. ⌜ world (memory (now (x .entry)) (now (y .exit)) (now (m .exit)) (now (sm .exit)) (now (t .exit)) (now (d .exit)) (now (tv .exit))) (now (left .exit)) (now (back .exit)) q ≡ stepOf (programIn (recordsFrom (now (f .entry)) first count)) e (world (memory (now (x .entry)) (now (y .entry)) (now (m .entry)) (now (sm .entry)) (now (t .entry)) (now (d .entry)) (now (tv .entry))) (now (left .entry)) (now (back .entry)) s) ⌝ }
 {
-    let i = decode::instr_at(rows, f, first, count, s.pc);
+    if count <= s.pc {
+        return flow::stop(s);
+    }
+    let i = first + 20 * s.pc;
+    let n = records::wide(f[i]);
+    let form = instructions::form_in(rows, n);
     exec(
+        form,
+        n,
         i,
         rows,
         f,

@@ -1,19 +1,27 @@
-use Rattle.step.proofs.SmallLaws.{small-code}
-use Rattle.step.proofs.ExecLaws.{step-is}
+use native.Mathlib.Omega.{arith}
+use mathlib.Core.Path.{refl}
+use Rattle.step.proofs.ExecLaws.{end-arm}
+use Rattle.step.proofs.FormLaws as by
 use borrow.Author.Needs.{needs}
 use Rattle.step.proofs.step.Statement.{statement}
 use Rattle.step.proofs.step.Tie as tie
 
-exec-requires : tie.Need-exec-requires
-exec-requires c κs = (c .before .before .before .before .before .before .before .before .before .before .before .before .before .before .before .pre .0, record { is = c .before .before .before .before .before .before .before .before .instr-at .ensures; small = rw (c .before .before .before .before .before .before .before .before .instr-at .ensures) (small-code _ (λ i. c .before .before .before .before .before .before .before .before .before .before .before .before .before .before .shared-slice-known .given i .fits) _ _ _); depth = c .before .before .before .before .before .before .before .before .before .before .before .before .before .before .before .pre .1 .0; pc = c .before .before .before .before .before .before .before .before .before .before .before .before .before .before .before .pre .1 .1 })
-
 returns : tie.Need-returns
-returns c = step-is _ _ _ (c .before .before .before .before .before .before .before .before .before .before .before .before .before .before .before .before .before .before .before .instr-at .ensures) (c .before .before .before .before .before .before .before .before .before .before .exec .ensures)
+returns c = end-arm _ _ _ _ _ _ (by.ended _ _ _ _ (c .before .if1 .taken)) (c .stop .ensures)
+
+exec-requires : tie.Need-exec-requires
+exec-requires c κs = (c .before .before .before .before .before .before .before .before .before .before .before .before .before .before .before .before .before .before .before .before .pre .0, record { here = c .before .before .before .before .before .before .before .before .before .before .before .before .if1 .left; at = refl; number = c .before .before .before .before .before .before .before .before .before .wide .ensures .0; by-table = c .before .before .before .before .before .before .before .before .form-in .ensures; room = omega (arith, c .before .before .before .before .before .before .before .before .before .before .before .before .if1 .left, c .before .before .before .before .before .before .before .before .before .before .before .before .before .before .before .before .before .before .before .before .pre .0 .held .whole); near = omega (arith, c .before .before .before .before .before .before .before .before .before .before .before .before .if1 .left, c .before .before .before .before .before .before .before .before .before .before .before .before .before .before .before .before .before .before .before .before .pre .0 .held .comment, c .before .before .before .before .before .before .before .before .before .before .before .before .before .before .before .before .before .before .before .before .pre .0 .held .most); depth = c .before .before .before .before .before .before .before .before .before .before .before .before .before .before .before .before .before .before .before .before .pre .1 .0; pc = c .before .before .before .before .before .before .before .before .before .before .before .before .before .before .before .before .before .before .before .before .pre .1 .1 })
 
 pub step-spec : {M : Type 1} → statement M
 step-spec =
     tie.close
     (tie.spec
+    (λ c κs. search needs)
+    returns
+    (λ c. search needs)
+    (λ c. search needs)
+    (λ c. search needs)
+    (λ c κs. search needs)
     (λ c κs. search needs)
     exec-requires
     (λ c. search needs)
@@ -22,4 +30,4 @@ step-spec =
     (λ c. search needs)
     (λ c. search needs)
     (λ c. search needs)
-    returns)
+    (λ c. search needs))
