@@ -48,8 +48,8 @@ twelve k a n1 n2 n3 n4 n5 n6 n7 n8 n9 n10 n11 =
 pub three : (k : ℕ) → 12 ≤ k → k < 15 → (k ≡ 12) ⊎ (k ≡ 13) ⊎ (k ≡ 14)
 three k a b =
     elim (ℕ-discrete k 12) [
-    | yes e ↦ inl e
-    | no e ↦ elim (ℕ-discrete k 13) [ yes g ↦ inr (inl g) | no g ↦ inr (inr (omega arith)) ]
+      | yes e ↦ inl e
+      | no e ↦ elim (ℕ-discrete k 13) [ yes g ↦ inr (inl g) | no g ↦ inr (inr (omega arith)) ]
     ]
 
 -- a number below 12, or 15 and more, is none of them
