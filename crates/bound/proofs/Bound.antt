@@ -14,7 +14,8 @@ use Rattle.ec20.specs.declared.Control.the-variants.{Plain, Opens, Closes, Jump
 use Rattle.ec20.specs.Control.{Controls}
 use Rattle.ec20.specs.Labels.{opensOf, Stands}
 use Rattle.bound.specs.Small.{Frame, frame, State, goto, toFound, pastFound, openOf, passOf, doneOf, moveOn}
-use Rattle.bound.proofs.Rows.{Steady, Seq, empty, plain, loop, low, picked}
+use Rattle.bound.proofs.Rows.{Steady, Seq, empty, plain, loop, low}
+use Rattle.ec20.proofs.Tests.{picked}
 use Rattle.bound.proofs.Search.{to-next, in-row, Within}
 use Rattle.bound.proofs.Opens.{open-for, loop-opens}
 use Rattle.bound.proofs.Rule.{Rule}

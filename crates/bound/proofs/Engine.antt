@@ -15,7 +15,7 @@ use Rattle.ec20.specs.Flow.{isOn, gone}
 use Rattle.ec20.specs.Step.{World, going, forOf, closeOf, jumpOf, execOf, stepOf}
 use Rattle.bound.specs.Small.{goto, toFound, pastFound, openOf, passOf, doneOf, moveOn, loopsOf, control}
 use Rattle.bound.specs.Safe.{Enters, Lands, Due, Safe}
-use Rattle.bound.proofs.Rows.{picked}
+use Rattle.ec20.proofs.Tests.{picked}
 use Rattle.bound.proofs.Stack.{length-loops, opened, passed}
 use Rattle.bound.proofs.Onward.{Ahead, ahead, contact-on, compare-on, join-on, branch-on, word-on}
 

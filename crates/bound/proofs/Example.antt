@@ -15,26 +15,11 @@ use Rattle.ec20.specs.Labels.{labelFault, Stands}
 use Rattle.ec20.specs.Memory.{Memory, memory}
 use Rattle.ec20.specs.Scan.{runOf, startWorld, fitting, scanOf}
 use Rattle.ec20.proofs.Computing.{computing}
-use Rattle.ec20.proofs.Files.{K, X, Y, M, SM, D, L, r0, r1, file, blank}
+use Rattle.ec20.proofs.Files.{X, Y, M, r0, r1, LD, FOR, NEXT, CJ, LBL, file, t9, blank}
 use Rattle.bound.specs.Scans.{EndsIn}
 use Rattle.bound.proofs.LabelRule.{label-rule}
 use Rattle.bound.proofs.Accepted.{accepted-right}
 use Rattle.bound.proofs.Theorem.{at-most-w, no-jumps, scan-of-ends}
-
-abbrev FOR : ℕ → List ℕ
-FOR n = r1 19 (K n)
-
-abbrev NEXT : List ℕ
-NEXT = r0 20
-
-abbrev LD : List ℕ → List ℕ
-LD o = r1 1 o
-
-abbrev CJ : ℕ → List ℕ
-CJ l = r1 21 (L l)
-
-abbrev LBL : ℕ → List ℕ
-LBL l = r1 22 (L l)
 
 abbrev real : List ℕ
 real =
@@ -109,9 +94,6 @@ real-label =
     label-rule (controlsOf (programOf real)) 22 22 58 walks 9 1 (omega arith) real-jumps .1 13 real-stands
 
 -- T9 has no CJ: just W steps, whatever memory is
-abbrev t9 : List ℕ
-t9 = file (FOR 3 ∷ LD (SM 0) ∷ r1 37 (D 0) ∷ NEXT ∷ r0 23 ∷ [])
-
 t9-ok : checkFor ec20 t9 ≡ Accepted 5 11
 unfolding computing
 t9-ok = refl

@@ -10,7 +10,7 @@ use Rattle.ec20.specs.declared.Outcome.{Outcome}
 use Rattle.ec20.specs.Memory.{Memory}
 use Rattle.ec20.specs.Flow.{isOn, acted, failed, loaded, contactOf, compareOf, joinOf, branchOf}
 use Rattle.ec20.specs.Step.{World, going, outcomeOf, settle, wordOf}
-use Rattle.bound.proofs.Rows.{picked}
+use Rattle.ec20.proofs.Tests.{picked}
 
 -- from the state s to the state t
 pub record Onward (s t : Machine) : Type 0 where

@@ -1,6 +1,5 @@
 -- What the check's walk says of a program: a derivation by parts.
 use Prim.Native.Nat.{ℕ, zero, suc, _+_, _-_, _*_, _<_, _≤_}
-use mathlib.Core.Bool.{Bool, true, false}
 use mathlib.Core.Path.{_≡_, refl, sym, ap, subst}
 use native.Mathlib.Omega.{arith}
 use native.Mathlib.Numerals.{add-one}
@@ -12,8 +11,8 @@ use Rattle.ec20.specs.declared.Act.{Act}
 use Rattle.ec20.specs.declared.Act.the-variants.{Go, Enter, Leave, Finish, Refuse}
 use Rattle.ec20.specs.declared.Walked.{Walked}
 use Rattle.ec20.specs.declared.Walked.the-variants.{Done, Bad}
-use Rattle.ec20.specs.Basics.{pick}
 use Rattle.ec20.specs.Control.{Controls}
+use Rattle.ec20.proofs.Tests.{picked}
 use Rattle.ec20.specs.Loops.{lastAct, midAct, actOf, plus, follow, byAct, sequenceOf}
 
 -- a record that is no part of a loop's frame: in record order, the next one follows
@@ -38,11 +37,6 @@ pub low : {code : Controls} {d k e w : ℕ} → Seq code d k e w → k ≤ e
 low empty = omega arith
 low (plain {k = k} {e = e} o t) = let h : k + 1 ≤ e = low t in omega arith
 low (loop {k = k} {b = b} {e = e} q x r s t) = let g : k + 1 ≤ b = low s in let h : b + 1 ≤ e = low t in omega arith
-
--- what holds of both holds of what is picked
-pub picked : {A : Type 0} (P : A → Type 0) (t : Bool) (x y : A) → (t ≡ true → P x) → (t ≡ false → P y) → P (pick t x y)
-picked P true x y f g = f refl
-picked P false x y f g = g refl
 
 -- a row that is complete: at the top it ends with END, the last record; in a loop at a NEXT
 pub data Complete (code : Controls) (count : ℕ) : ℕ → ℕ → ℕ → ℕ → Type 0 where

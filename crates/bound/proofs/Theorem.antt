@@ -21,7 +21,7 @@ use Rattle.ec20.specs.Scan.{Run, runOf, startWorld, scan, answerOf, runScan, fi
 use Rattle.bound.specs.Small.{State, control, moveOn}
 use Rattle.bound.specs.Safe.{Safe, AtEnd}
 use Rattle.bound.specs.Scans.{Quiet, EndsIn}
-use Rattle.bound.proofs.Accepted.{program-fine, count-told, steps-told}
+use Rattle.ec20.proofs.NoFault.{accepted-program, accepted-count, accepted-steps}
 use Rattle.bound.proofs.Engine.{step-same}
 use Rattle.bound.proofs.Runs.{run-more, Kept, from-start}
 
@@ -37,7 +37,7 @@ module _ (v : Device) (f : List ℕ) (n w : ℕ) (ok : checkFor v f ≡ Accepted
   run b = runOf (programOf f) e b 0 (startWorld c)
 
   all : (b : ℕ) → Kept (programOf f) e (run b) (startWorld c) b 0 w
-  all b = rw (← steps-told v f n w ok) (from-start (programOf f) (program-fine v f n w ok) e b c)
+  all b = rw (← accepted-steps v f n w ok) (from-start (programOf f) (accepted-program v f n w ok) e b c)
 
   -- "Each record executed is one step": whatever the budget, there are at most W
   pub at-most-w : (b : ℕ) → run b .steps ≤ w
@@ -73,7 +73,7 @@ module _ (v : Device) (f : List ℕ) (n w : ℕ) (ok : checkFor v f ≡ Accepted
 
   -- the record due is one of the program's, at END too
   pub due-inside : (b : ℕ) → run b .after .st .pc < n
-  due-inside b = rw (← count-told v f n w ok) (elim (each-safe b) [ inl x ↦ let y = x .last in omega arith | inr x ↦ x .inside ])
+  due-inside b = rw (← accepted-count v f n w ok) (elim (each-safe b) [ inl x ↦ let y = x .last in omega arith | inr x ↦ x .inside ])
 
   -- so in a program with no CJ
   pub no-jumps : (b : ℕ) → w ≤ b → ((k l : ℕ) → k < n → controlsOf (programOf f) k ≡ Jumps l → ⊥) → run b .steps ≡ w
@@ -88,7 +88,7 @@ module _ (v : Device) (f : List ℕ) (n w : ℕ) (ok : checkFor v f ≡ Accepted
         report = record { steps = run b .steps; stop = run b .after .st .pc; error = run b .after .st .error; at = run b .after .st .at };
         answer = rw (ok, x) (answer-ended (run b .steps) (run b .after .st) (a .ended));
         few = at-most-w b;
-        last = a .last ∙ count-told v f n w ok;
+        last = a .last ∙ accepted-count v f n w ok;
       }
 
   -- and never "watchdog", of any memory

@@ -6,6 +6,7 @@ use mathlib.Core.Path.{_≡_, refl, sym, ap, _∙_}
 use native.Mathlib.Omega.{arith}
 use lib.Dec.{leb}
 use borrow.Author.Tests.{le-leb, lt-leb, leb-true}
+use Rattle.checker.proofs.Accepted.{apart, whole-pick}
 use Rattle.ec20.specs.Basics.{pick, then}
 use Rattle.ec20.specs.Check.{walked, judgeProgram, judgeFile, verdictOf, checkFor, checkOf}
 use Rattle.ec20.specs.Code.{Program, programIn, programOf}
@@ -16,7 +17,6 @@ use Rattle.ec20.specs.Labels.{firstUnlabelled}
 use Rattle.ec20.specs.Loops.{unsound, stepsOf, tooLong}
 use Rattle.ec20.specs.Operands.{firstBad}
 use Rattle.ec20.specs.Rung.{firstBroken}
-use Rattle.ec20.specs.declared.Frame.{Frame}
 use Rattle.ec20.specs.declared.Frame.the-variants.{Whole, Broken}
 use Rattle.ec20.specs.declared.Judged.{Judged}
 use Rattle.ec20.specs.declared.Judged.the-variants.{Fine, Fault}
@@ -105,14 +105,7 @@ verdict-stage : (p : Program) (j : Judged) → verdictOf p j ≡ stage (p .count
 verdict-stage p Fine = refl
 verdict-stage p (Fault m k) = refl
 
-apart : {A : Type 0} {a b : ℕ} → _≡_ {A = Frame} Broken (Whole a b) → A
-apart e = let z : _≡_ {A = ℕ} 0 1 = cc in absurd (omega arith)
-
 module _ (f : List ℕ) where
-  whole-pick : (t : Bool) {a b first count : ℕ} → pick t (Whole a b) Broken ≡ Whole first count → (t ≡ true) × (first ≡ a) × (count ≡ b)
-  whole-pick true e = (refl, cc, cc)
-  whole-pick false e = apart e
-
   broken-pick : (t : Bool) (a b : ℕ) → pick t (Whole a b) Broken ≡ Broken → t ≡ false
   broken-pick true a b e = apart (sym e)
   broken-pick false a b e = refl

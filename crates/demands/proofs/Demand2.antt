@@ -1,14 +1,14 @@
 -- DEMAND 2 IS MET: demand-2. Its words and its statement are in specs/Demand2.antt.
 use Prim.Native.Nat.{ℕ, _≤_, _<_}
 use mathlib.Core.Bool.{Bool, true, false}
-use mathlib.Core.List.{List, [], _∷_}
+use mathlib.Core.List.{List}
 use mathlib.Core.Logic.{inl, inr}
 use mathlib.Core.Path.{_≡_, refl, subst}
 use native.Mathlib.Omega.{arith}
 use lib.Dec.{eqb}
 use lib.IntN.{pos}
 use Rattle.ec20.proofs.Computing.{computing}
-use Rattle.ec20.proofs.Files.{K, SM, D, r0, r1, file, blank}
+use Rattle.ec20.proofs.Files.{t9, blank}
 use Rattle.ec20.specs.declared.Machine.{Machine}
 use Rattle.ec20.specs.declared.Report.{Report}
 use Rattle.ec20.specs.declared.Scanned.the-variants.{Ended, Watchdog}
@@ -81,9 +81,6 @@ demand-2 f n w ok = record {
 }
 
 -- ---- and it is not for nothing: T9, FOR 3, LD SM0, INC D0, NEXT, END, on memory that is all zeros
-
-abbrev t9 : List ℕ
-t9 = file (r1 19 (K 3) ∷ r1 1 (SM 0) ∷ r1 37 (D 0) ∷ r0 20 ∷ r0 23 ∷ [])
 
 t9-ok : checkOf t9 ≡ Accepted 5 11
 unfolding computing

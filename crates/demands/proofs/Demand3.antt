@@ -28,10 +28,10 @@ use Rattle.moving.proofs.Exchange.{length-exchangeBy, at-exchange, read}
 use Rattle.moving.proofs.Series.{series-sim}
 use Rattle.moved.proofs.Example.{bytes-below}
 use Rattle.moved.proofs.Moved.{moved, moved-check}
-use Rattle.moved.proofs.Swapped.{within-yes}
+use Rattle.ec20.proofs.Ranges.{within-yes}
+use Rattle.ec20.proofs.Tests.{is-false}
 use Rattle.demands.specs.Demand3.{OfBytes, withExchange, scanExchanged, Same, Demand3}
 use Rattle.demands.specs.Lines.{In, InBlock, Lowest}
-use Rattle.demands.proofs.Ranges.{is-false}
 use Rattle.demands.proofs.MoveAnswers.{move-numbers}
 
 -- ---- the exchange, word by word

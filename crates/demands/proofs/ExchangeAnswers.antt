@@ -15,7 +15,7 @@ use Rattle.ec20.specs.Exchange.{sizeFault, placeFault, judgeExchange, exchangeI
 use Rattle.ec20.specs.Move.{Block, blockFault, blockWork}
 use Rattle.demands.specs.Demand1.{ExchangeNumbers}
 use Rattle.demands.specs.Lines.{Line10, Not10, Line12, Not12, Line9D, Line14D}
-use Rattle.demands.proofs.Tells.{Tells, tells-fine, tells-fault}
+use Rattle.refusals.proofs.Tells.{Tells, tells-fine, tells-fault}
 use Rattle.demands.proofs.Lines.{judged-10, some-word, judged-12, judged-9D, judged-14D}
 
 module _ (d : List ℤ) (b : Block) (q : ℕ) where

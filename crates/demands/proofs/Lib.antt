@@ -1,7 +1,6 @@
 -- The three demands, proved. Read Demand1, Demand2 and Demand3; what they rest on stands before them.
--- Ranges of words, and a judgement by one line
+-- Ranges of words
 pub mod Ranges
-pub mod Tells
 -- The lines 9 to 14, and the answers of scan, mover and exchange by them
 pub mod Lines
 pub mod Split

@@ -10,7 +10,7 @@ use lib.Dec.{ltb, leb, eqb}
 use lib.IntN.{ℤ}
 use lib.ListN.{length}
 use borrow.Author.Tests.{ltb-true, ltb-false, leb-true, leb-false, eqb-true, eqb-false, not-true, not-false}
-use Rattle.ec20.proofs.Tests.{both}
+use Rattle.ec20.proofs.Tests.{both, one-fails}
 use Rattle.ec20.specs.declared.Judged.the-variants.{Fine, Fault}
 use Rattle.ec20.specs.Basics.{pick}
 use Rattle.ec20.specs.Devices.{ec20, meets, meetsWork}
@@ -21,8 +21,8 @@ use Rattle.ec20.specs.Scan.{fitting}
 use Rattle.demands.specs.Lines.{Line9, Line10, Not10, Line11, Line12, Line9D, Line14D}
 use Rattle.demands.specs.Lines.{size-x, size-y, size-m, size-sm, size-t, size-d, size-tv, elapsed, empty, outside, start-above, end-above, in-work}
 use Rattle.demands.specs.Lines.{outside as place-outside, in-block as place-in-block, in-work as place-in-work}
-use Rattle.demands.proofs.Ranges.{one-fails, not-both, in-common, common-meets, work-common, common-work}
-use Rattle.demands.proofs.Tells.{Tells, tells}
+use Rattle.demands.proofs.Ranges.{not-both, in-common, common-meets, work-common, common-work}
+use Rattle.refusals.proofs.Tells.{Tells, tells}
 
 -- ---- 9, of the scan
 

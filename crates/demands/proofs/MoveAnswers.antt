@@ -21,7 +21,7 @@ use Rattle.refusals.proofs.Refused.{one-to-eight}
 use Rattle.refusals.proofs.Search.{Judges, judged-fine, judged-fault}
 use Rattle.demands.specs.Demand1.{MoveNumbers}
 use Rattle.demands.specs.Lines.{Accepts, Line10, Not10, Line11, Not11, Line12, Not12, Line13, First13, Line14, Lowest, Asked}
-use Rattle.demands.proofs.Tells.{Tells, tells-fine, tells-fault}
+use Rattle.refusals.proofs.Tells.{Tells, tells-fine, tells-fault}
 use Rattle.demands.proofs.Lines.{judged-10, some-word, judged-11, judged-12}
 use Rattle.demands.proofs.Split.{judged-13}
 use Rattle.demands.proofs.Places.{pool-order, Finds, found-place, one-lowest}

@@ -1,48 +1,29 @@
 -- The line 14, and the place that is taken.
-use Prim.Native.Nat.{ℕ, zero, suc, _+_, _-_, _≤_, _<_}
-use mathlib.Core.Bool.{Bool, true, false, not, _&&_}
+use Prim.Native.Nat.{ℕ, _+_, _-_, _≤_, _<_}
+use mathlib.Core.Bool.{Bool, true, false}
 use mathlib.Core.List.{List}
-use mathlib.Core.Logic.{inl, inr}
-use mathlib.Core.Path.{_≡_, refl, sym, subst}
+use mathlib.Core.Path.{_≡_, refl}
 use native.Mathlib.Omega.{arith}
-use native.Mathlib.Decide.{decLt, ℕ-discrete}
-use borrow.Author.Tests.{not-true}
-use Rattle.ec20.proofs.Tests.{both, either, neither, differ}
+use native.Mathlib.Decide.{decLt}
+use Rattle.ec20.proofs.NoFault.{place-parts}
+use Rattle.ec20.proofs.Ranges.{inside-yes, is-inside}
+use Rattle.ec20.proofs.Some.{some-at, none-at}
+use Rattle.ec20.proofs.Tests.{is-false}
 use Rattle.ec20.specs.declared.Found.{Found}
 use Rattle.ec20.specs.declared.Found.the-variants.{At, Nowhere}
 use Rattle.ec20.specs.declared.Operand.{Operand}
 use Rattle.ec20.specs.declared.Place.{Place}
-use Rattle.ec20.specs.Basics.{someFrom}
-use Rattle.ec20.specs.Devices.{ec20, meets, inside, meetsWork}
+use Rattle.ec20.specs.Devices.{ec20, meets, meetsWork}
 use Rattle.ec20.specs.File.{countOf, recordsOf}
 use Rattle.ec20.specs.Move.{Block, block, Pool, touches, isPlace, placeOf}
 use Rattle.ec20.specs.UseMap.{recordHas, someRecord}
 use Rattle.bound.proofs.First.{first-at, no-first}
 use Rattle.refusals.specs.Records.{Operand-at}
 use Rattle.refusals.specs.Table.{recordAt}
+use Rattle.refusals.proofs.Has.{has-one, one-has}
 use Rattle.demands.specs.Lines.{In, Extent, Accepts, Right, Lowest, Line14, Not11, start-above}
-use Rattle.demands.proofs.Ranges.{is-false, not-both, in-common, common-meets, work-common, common-work, inside-to, to-inside}
-use Rattle.demands.proofs.Split.{has-one, one-has, has-word, touches-to, to-touches}
-
--- one of the n numbers from k on passes
-some-of : (p : ℕ → Bool) (k n : ℕ) → someFrom p k n ≡ true → (j : ℕ) × (j < k + n) × (p j ≡ true)
-unfolding someFrom
-some-of p k zero e = differ (sym e)
-some-of p k (suc n) e =
-    elim (either (p k) (someFrom p (suc k) n) e) [
-      | inl q ↦ (k, omega arith, q)
-      | inr q ↦ let r = some-of p (suc k) n q in (r .0, omega (arith, r .1), r .2)
-    ]
-
-none-of : (p : ℕ → Bool) (k n : ℕ) → someFrom p k n ≡ false → (j : ℕ) → k ≤ j → j < k + n → p j ≡ false
-unfolding someFrom
-none-of p k zero e j a b = absurd (omega arith)
-none-of p k (suc n) e j a b =
-    let q = neither (p k) (someFrom p (suc k) n) e in
-    elim (ℕ-discrete k j) [
-      | yes z ↦ subst (λ (i : ℕ). p i ≡ false) z (q .0)
-      | no z ↦ none-of p (suc k) n (q .1) j (omega arith) (omega arith)
-    ]
+use Rattle.demands.proofs.Ranges.{not-both, in-common, common-meets, work-common, common-work}
+use Rattle.demands.proofs.Split.{has-word, touches-to, to-touches}
 
 -- the start of a pool that 11 does not refuse is not above its end
 pub pool-order : (l : Pool) → Not11 l → l .start ≤ l .end
@@ -56,9 +37,6 @@ Finds f b l Nowhere = Line14 f b l
 -- an accepted file, a block that is not empty, a pool whose start is not above its end
 module _ (f : List ℕ) (b : Block) (l : Pool) (ok : Accepts f) (some : 0 < b .length) (order : l .start ≤ l .end) where
   module _ (q : ℕ) where
-    abbrev InPool : Bool
-    InPool = inside q (b .length) (l .start) (l .end - l .start)
-
     abbrev Meets : Bool
     Meets = meets q (b .length) (b .start) (b .length)
 
@@ -74,22 +52,19 @@ module _ (f : List ℕ) (b : Block) (l : Pool) (ok : Accepts f) (some : 0 < b .l
         → (i : ℕ) → In q (b .length) i → Extent p o i → ⊥
     unfolding someRecord
     unused-to e k h p o at i x y =
-        not-both (one-has (touches (block q (b .length))) (recordAt f k) p o at (to-touches (block q (b .length)) p o i y x))
-        (none-of (λ j. recordHas (touches (block q (b .length))) (recordsOf f .at j)) 0 (countOf f) e k (omega arith) (omega arith))
+        not-both (one-has (touches (block q (b .length))) (recordAt f k) at (to-touches (block q (b .length)) p o i y x))
+        (none-at (λ j. recordHas (touches (block q (b .length))) (recordsOf f .at j)) 0 (countOf f) e k (omega arith) (omega arith))
 
     pub place-right : isPlace ec20 (recordsOf f) b l q ≡ true → Right f b l q
-    unfolding isPlace
     place-right e =
-        let x = both (InPool && not Meets && not Worked) (not Used) e in
-        let y = both (InPool && not Meets) (not Worked) (x .0) in
-        let z = both InPool (not Meets) (y .0) in
-        let w = inside-to q (b .length) (l .start) (l .end - l .start) (z .0) in
+        let x = place-parts ec20 (recordsOf f) b l q e in
+        let w = is-inside q (b .length) (l .start) (l .end - l .start) (x .0) in
         record {
           from = w .0;
           to = omega (arith, w .1, order);
-          off-block = λ i u v. not-both (common-meets q (b .length) (b .start) (b .length) i (record { from = u .from; to = omega (arith, u .to, some) }) v) (not-true _ (z .1));
-          off-work = λ i u v. not-both (common-work q (b .length) i (record { from = u .from; to = omega (arith, u .to, some) }) v) (not-true _ (y .1));
-          unused = unused-to (not-true _ (x .1));
+          off-block = λ i u v. not-both (common-meets q (b .length) (b .start) (b .length) i (record { from = u .from; to = omega (arith, u .to, some) }) v) (x .1);
+          off-work = λ i u v. not-both (common-work q (b .length) i (record { from = u .from; to = omega (arith, u .to, some) }) v) (x .2);
+          unused = unused-to (x .3);
         }
 
     -- ---- and what is right passes
@@ -97,9 +72,9 @@ module _ (f : List ℕ) (b : Block) (l : Pool) (ok : Accepts f) (some : 0 < b .l
     used-not : Right f b l q → Used ≡ true → ⊥
     unfolding someRecord
     used-not r e =
-        let s = some-of (λ j. recordHas (touches (block q (b .length))) (recordsOf f .at j)) 0 (countOf f) e in
-        let h : s .0 < countOf f = omega (arith, s .1) in
-        let t = has-one (touches (block q (b .length))) (recordAt f (s .0)) (s .2) in
+        let s = some-at (λ j. recordHas (touches (block q (b .length))) (recordsOf f .at j)) 0 (countOf f) e in
+        let h : s .0 < countOf f = omega (arith, s .2) in
+        let t = has-one (touches (block q (b .length))) (recordAt f (s .0)) (s .3) in
         let u = touches-to (block q (b .length)) (t .0) (t .1) (has-word f ok (s .0) h (t .0) (t .1) (t .2)) some (t .3) in
         r .unused (s .0) h (t .0) (t .1) (t .2) (u .0) (u .2) (u .1)
 
@@ -109,7 +84,7 @@ module _ (f : List ℕ) (b : Block) (l : Pool) (ok : Accepts f) (some : 0 < b .l
         let w : q + b .length ≤ l .start + (l .end - l .start) = omega (arith, r .to, order) in
         let x : Meets ≡ false = is-false Meets (λ e. let s = in-common q (b .length) (b .start) (b .length) some some e in r .off-block (s .0) (s .1) (s .2)) in
         let y : Worked ≡ false = is-false Worked (λ e. let s = work-common q (b .length) some e in r .off-work (s .0) (s .1) (s .2)) in
-        rw (to-inside q (b .length) (l .start) (l .end - l .start) (r .from) w, x, y, is-false Used (used-not r))
+        rw (inside-yes q (b .length) (l .start) (l .end - l .start) (r .from) w, x, y, is-false Used (used-not r))
 
   -- ---- what the search finds
 

@@ -1,66 +1,34 @@
 -- The line 13: an operand's extent partly in the block, as the definition tests it and by its words.
 use Prim.Native.Nat.{ℕ, _+_, _≤_, _<_}
-use mathlib.Core.Bool.{Bool, true, false, not, _&&_, _||_}
+use mathlib.Core.Bool.{Bool, true, false, not, _&&_}
 use mathlib.Core.List.{List}
-use mathlib.Core.Logic.{inl, inr}
 use mathlib.Core.Path.{_≡_, refl, ap₂}
 use native.Mathlib.Omega.{arith}
 use native.Mathlib.Decide.{ℕ-discrete}
 use borrow.Author.Tests.{eqb-true, eq-eqb, not-true}
-use Rattle.ec20.proofs.Tests.{both, either}
+use Rattle.ec20.proofs.InD.{at-word}
+use Rattle.ec20.proofs.Ranges.{is-inside}
+use Rattle.ec20.proofs.Tests.{both, is-false}
 use Rattle.ec20.specs.declared.Found.{Found}
 use Rattle.ec20.specs.declared.Found.the-variants.{At, Nowhere}
 use Rattle.ec20.specs.declared.Operand.{Operand}
 use Rattle.ec20.specs.declared.Place.{Place}
-use Rattle.ec20.specs.declared.Rec.{Rec}
 use Rattle.ec20.specs.Basics.{firstAt, refusedAt}
 use Rattle.ec20.specs.Check.{checkOf}
 use Rattle.ec20.specs.Devices.{ec20, kindD, inside}
 use Rattle.ec20.specs.File.{countOf, recordsOf}
 use Rattle.ec20.specs.Move.{Block, touches, partly, splitFault}
 use Rattle.ec20.specs.Operands.{kindIs, allowed}
-use Rattle.ec20.specs.Table.{rowOf, roleUnused}
-use Rattle.ec20.specs.UseMap.{someOperand, recordHas}
+use Rattle.ec20.specs.Table.{roleUnused}
+use Rattle.ec20.specs.UseMap.{recordHas}
 use Rattle.bound.proofs.First.{first-at, no-first}
-use Rattle.refusals.specs.Records.{Operand-at, first, second, third, wrong, not-allowed, not-zero, by-3}
+use Rattle.refusals.specs.Records.{Operand-at, wrong, not-allowed, not-zero, by-3}
 use Rattle.refusals.specs.Table.{recordAt}
+use Rattle.refusals.proofs.Has.{has-one, one-has, some-word}
 use Rattle.refusals.proofs.Refused.{not-refused}
 use Rattle.refusals.proofs.Search.{Judges}
-use Rattle.moved.proofs.InD.{at-word}
-use Rattle.moved.proofs.Rows.{some-word}
 use Rattle.demands.specs.Lines.{InBlock, Extent, Accepts, Partly, Line13, partly as is-partly}
-use Rattle.demands.proofs.Ranges.{is-false, not-both, in-common, common-meets, inside-to, one-out}
-
--- ---- the operands of a record
-
-module _ (test : Place → Operand → Bool) (r : Rec) where
-  abbrev One : Bool
-  One = test (rowOf (r .number) .first) (r .first)
-
-  abbrev Two : Bool
-  Two = test (rowOf (r .number) .second) (r .second)
-
-  abbrev Three : Bool
-  Three = test (rowOf (r .number) .third) (r .third)
-
-  -- one of them passes
-  pub has-one : recordHas test r ≡ true → (p : Place) × (o : Operand) × Operand-at r p o × (test p o ≡ true)
-  unfolding someOperand
-  has-one e =
-      elim (either (One || Two) Three e) [
-        | inl q ↦ elim (either One Two q) [ inl z ↦ (_, _, first, z) | inr z ↦ (_, _, second, z) ]
-        | inr z ↦ (_, _, third, z)
-      ]
-
-  or-true : (b : Bool) → (b || true) ≡ true
-  or-true true = refl
-  or-true false = refl
-
-  pub one-has : (p : Place) (o : Operand) → Operand-at r p o → test p o ≡ true → recordHas test r ≡ true
-  unfolding someOperand
-  one-has p o first e = rw e
-  one-has p o second e = rw (e, or-true One)
-  one-has p o third e = rw (e, or-true (One || Two))
+use Rattle.demands.proofs.Ranges.{not-both, in-common, common-meets, one-out}
 
 -- ---- in an accepted file, an operand in D has a word at least
 
@@ -108,7 +76,7 @@ module _ (b : Block) (p : Place) (o : Operand) where
 
   out-not : Partly b p o → Within ≡ true → ⊥
   out-not x e =
-      let q = inside-to (o .value) (p .extent) (b .start) (b .length) e in
+      let q = is-inside (o .value) (p .extent) (b .start) (b .length) e in
       let h : o .value ≤ x .other = x .other-of .words .from in
       let k : x .other < o .value + p .extent = x .other-of .words .to in
       x .other-out (record { from = omega (arith, q .0); to = omega (arith, q .1) })
@@ -129,7 +97,7 @@ module _ (f : List ℕ) (b : Block) (ok : Accepts f) (h : 0 < b .length) where
       is-partly (s .2) (partly-to b (s .0) (s .1) (has-word f ok k l (s .0) (s .1) (s .2)) h (s .3))
 
   held : (k : ℕ) → Line13 f b k → test k ≡ true
-  held k (is-partly {p} {o} at x) = one-has (partly b) (recordAt f k) p o at (to-partly b p o x)
+  held k (is-partly {p} {o} at x) = one-has (partly b) (recordAt f k) at (to-partly b p o x)
 
   by-found : (x : Found) → firstAt test (countOf f) 0 ≡ x → Judges 13 (countOf f) (Line13 f b) (refusedAt 13 x)
   by-found (At k) e =

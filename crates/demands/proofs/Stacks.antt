@@ -1,17 +1,14 @@
 -- A stack of bits as a byte: one more entry, one less, none.
 use Prim.Native.Nat.{ℕ, zero, suc, _+_, _-_, _*_, _≤_, _<_, _^_}
-use mathlib.Core.Bool.{Bool, true, false}
+use mathlib.Core.Bool.{Bool}
 use mathlib.Core.Path.{_≡_}
 use native.Mathlib.Nat.{pow-suc, pow-le-pow-right}
 use native.Mathlib.Numerals.{add-one}
 use native.Mathlib.Omega.{arith}
+use Rattle.ec20.proofs.Tests.{one-small}
 use Rattle.ec20.specs.Basics.{one-if}
 use Rattle.ec20.specs.Flow.{push, pop}
 use Rattle.demands.specs.Total.{Holds}
-
-bit : (b : Bool) → one-if b ≤ 1
-bit true = omega arith
-bit false = omega arith
 
 pub holds-none : (x : ℕ) → Holds 0 x → x ≡ 0
 holds-none x h = let k : x < 1 = h .bits in omega arith
@@ -27,7 +24,7 @@ holds-room n x l h =
 pub holds-push : (n x : ℕ) (b : Bool) → n < 8 → Holds n x → Holds (n + 1) (push x b)
 holds-push n x b l h =
     let k : x < 2 ^ n = h .bits in
-    let o : one-if b ≤ 1 = bit b in
+    let o : one-if b < 2 = one-small b in
     let z : 2 ^ (n + 1) ≡ 2 ^ n * 2 = rw (add-one n) (pow-suc 2 n) in
     record { few = omega arith; bits = omega arith }
 

@@ -6,8 +6,7 @@ use lib.Dec.{eqb}
 use lib.IntN.{ℤ}
 use lib.ListN.{length}
 use borrow.Author.Tests.{eqb-true}
-use Rattle.blocks.proofs.NoFault.{passed, block-inside, place-inside}
-use Rattle.bound.proofs.Accepted.{then-fine}
+use Rattle.ec20.proofs.NoFault.{passed, then-fine, block-inside, place-inside}
 use Rattle.ec20.specs.Basics.{then}
 use Rattle.ec20.specs.Devices.{ec20}
 use Rattle.ec20.specs.Exchange.{Exchange, exchanged, sizeFault, placeFault, judgeExchange, exchangeFor, exchangeOf}
@@ -38,5 +37,5 @@ module _ (d : List ℤ) (b : Block) (q : ℕ) {j : Judged} (e : j ≡ judgeExcha
       let nine = then-fine (sizeFault ec20 d) (then (blockFault ec20 b) (then (blockWork ec20 b) (placeFault ec20 b q))) (sym e ∙ f) in
       let ten = then-fine (blockFault ec20 b) (then (blockWork ec20 b) (placeFault ec20 b q)) (nine .1) in
       let twelve = then-fine (blockWork ec20 b) (placeFault ec20 b q) (ten .1) in
-      let p = place-inside b q (twelve .1) in
-      (record { block-in = block-inside b (ten .0) .1; place-in = p .0; apart = p .1 }, eqb-true _ _ (passed (eqb (length d) 8000) 9 0 (nine .0)))
+      let p = place-inside ec20 b q (twelve .1) in
+      (record { block-in = block-inside ec20 b (ten .0) .1; place-in = p .0; apart = p .1 }, eqb-true _ _ (passed (eqb (length d) 8000) 9 0 (nine .0)))

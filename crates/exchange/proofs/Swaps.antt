@@ -8,7 +8,7 @@ use native.Mathlib.Omega.{arith}
 use lib.IntN.{ℤ, pos}
 use lib.ListN.{length, set, length-set}
 use lib.Seq.{ext-getD, getD-set-same, getD-set-other}
-use Rattle.blocks.proofs.Rows.{within-yes, within-no, within-more}
+use Rattle.ec20.proofs.Ranges.{within-yes, within-no, within-more}
 use Rattle.ec20.proofs.MovedLaws.{getD-from, length-from}
 use Rattle.ec20.specs.Devices.{ec20}
 use Rattle.ec20.specs.Exchange.{swapped, exchanged}

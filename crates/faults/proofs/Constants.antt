@@ -1,5 +1,5 @@
 -- The range of a constant, judged on its bits. Assumes nothing.
-use mathlib.Core.Bool.{Bool, true, false, _&&_, _||_}
+use mathlib.Core.Bool.{_&&_, _||_, and-true, and-false, or-false}
 use mathlib.Core.Path.{_≡_, refl, sym, ap, _∙_}
 use Prim.Native.Nat.{ℕ, zero, suc, _+_, _-_, _<_, _≤_, _^_}
 use native.Mathlib.Decide.{decLt}
@@ -44,21 +44,9 @@ in-signed h v l m k =
     by-sign v (λ z. (ltb v h || leb (2 ^ 32 - h) v) ≡ between (negℤ (pos h)) (pos (h - 1)) z) k
     (λ a. rw (below h l, le-as-lt v h l, lt-leb (2 ^ 32 - h) v (omega arith)) (or-false (ltb v h)))
     (λ a. rw (below h l, le-turned v h l m k, le-ltb v h (omega arith)) (sym (and-true (leb (2 ^ 32 - h) v))))
-  where
-    or-false : (b : Bool) → (b || false) ≡ b
-    or-false true = refl
-    or-false false = refl
-
-    and-true : (b : Bool) → (b && true) ≡ b
-    and-true true = refl
-    and-true false = refl
 
 pub in-from : (a v : ℕ) → v < 2 ^ 32 → (leb a v && leb v 32767) ≡ between (pos a) (pos 32767) (signed (2 ^ 31) v)
 in-from a v k =
     by-sign v (λ z. (leb a v && leb v 32767) ≡ between (pos a) (pos 32767) z) k
     (λ l. refl)
     (λ l. rw (lt-leb v 32767 (omega arith)) (and-false (leb a v)))
-  where
-    and-false : (b : Bool) → (b && false) ≡ false
-    and-false true = refl
-    and-false false = refl

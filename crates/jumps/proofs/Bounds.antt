@@ -7,7 +7,7 @@ use lib.Dec.{eqb, ltb}
 use lib.ListN.{getD, length, length-set}
 use borrow.Author.Tests.{ltb-true, le-ltb}
 use Rattle.bound.proofs.Onward.{Ahead, ahead, acted-on, contact-on, compare-on, join-on, branch-on, word-on}
-use Rattle.bound.proofs.Rows.{picked}
+use Rattle.ec20.proofs.Tests.{picked}
 use Rattle.ec20.specs.Code.{Program, codeOf, programIn}
 use Rattle.ec20.specs.Control.{controlsOf, nextOf, labelOf, orPast}
 use Rattle.ec20.specs.File.{Records}

@@ -4,6 +4,7 @@ use mathlib.Core.Bool.{Bool, true, false}
 use mathlib.Core.Path.{_≡_, refl, sym, ap, _∙_}
 use native.Mathlib.Omega.{arith}
 use Prim.Native.Nat.{ℕ, suc, _+_, _-_, _<_, _≤_}
+use Rattle.ec20.proofs.Tests.{picked}
 use Rattle.ec20.specs.Basics.{pick, firstAt}
 use Rattle.ec20.specs.Control.{Controls, closes, marks, shiftOf, turnOf, byTurn, findOf, findFrom}
 use Rattle.ec20.specs.declared.Control.the-variants.{Plain, Opens, Closes, Jumps, Marks, Ends}
@@ -74,22 +75,18 @@ Near d Hit = Unit {0}
 Near d Stop = Unit {0}
 Near d (On j) = j ≤ d + 1
 
-picked : {A : Type 0} (P : A → Type 0) (t : Bool) (x y : A) → P x → P y → P (pick t x y)
-picked P true x y f g = f
-picked P false x y f g = g
-
 near-shift : (i : Control) (d : ℕ) → Near d (shiftOf i d)
 unfolding Near shiftOf
 near-shift Plain d = omega arith
 near-shift (Opens n) d = omega arith
-near-shift Closes d = picked (Near d) (eqb d 0) Stop (On (d - 1)) tt (omega arith)
+near-shift Closes d = picked (Near d) (eqb d 0) Stop (On (d - 1)) (λ _. tt) (λ _. omega arith)
 near-shift (Jumps l) d = omega arith
 near-shift (Marks l) d = omega arith
 near-shift Ends d = omega arith
 
 near-turn : (b : Bool) (i : Control) (d : ℕ) → Near d (turnOf b i d)
 unfolding turnOf Near
-near-turn b i d = picked (Near d) (eqb d 0) _ _ (picked (Near d) b _ _ tt (near-shift i d)) (near-shift i d)
+near-turn b i d = picked (Near d) (eqb d 0) _ _ (λ _. picked (Near d) b _ _ (λ _. tt) (λ _. near-shift i d)) (λ _. near-shift i d)
 
 pub near : (b : Bool) (i : Control) (d : ℕ) {r : Turn} {j : ℕ} → r ≡ turnOf b i d → r ≡ On j → j ≤ d + 1
 unfolding Near

@@ -1,5 +1,4 @@
 -- Maps of D words, by tests and by records.
 pub mod Words
 pub mod Maps
-pub mod Some
 pub mod Walk

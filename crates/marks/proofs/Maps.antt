@@ -1,6 +1,6 @@
 -- The map by a test: each word is marked by the test, and a map with more words marked is the map by the wider test. Assumes nothing.
 use Prim.Native.Nat.{ℕ, zero, suc, _+_, _*_, _-_, _/_, _%_, _<_, _≤_}
-use mathlib.Core.Bool.{Bool, true, false, _&&_, _||_, or-assoc}
+use mathlib.Core.Bool.{Bool, true, false, _&&_, _||_, or-assoc, or-false}
 use mathlib.Core.List.{List}
 use mathlib.Core.Path.{_≡_, refl, sym, ap, ap₂, fun-ext, _∙_}
 use native.Mathlib.Decide.{ℕ-discrete, decLt}
@@ -11,6 +11,8 @@ use lib.ListN.{getD, length, set, replicate, length-set, length-replicate, getD-
 use lib.Seq.{ext-getD, getD-set-same, getD-set-other, set-out}
 use borrow.Author.Tests.{le-leb, lt-leb, lt-ltb, le-ltb, eq-eqb, ne-eqb}
 use Rattle.ec20.proofs.MovedLaws.{getD-from, length-from}
+use Rattle.ec20.proofs.Ranges.{within-no}
+use Rattle.ec20.proofs.Tests.{or-right}
 use Rattle.ec20.specs.Basics.{pick, one-if}
 use Rattle.ec20.specs.Bits.{bitOf, bitAt, byteWith, withBit}
 use Rattle.ec20.specs.Devices.{Device, kindD, within}
@@ -47,26 +49,10 @@ within-more a n i =
           ]
     ]
 
-within-none : (a i : ℕ) → within a 0 i ≡ false
-unfolding within
-within-none a i =
-    elim (decLt i a) [
-      | yes l ↦ rw (lt-leb a i l) refl
-      | no l ↦ let low : a ≤ i = omega arith in let up : a + 0 ≤ i = omega arith in rw (le-leb a i low, le-ltb i (a + 0) up) refl
-    ]
-
 -- a word's bit is 1 exactly if the test holds
 one-is : (b : Bool) → eqb (one-if b) 1 ≡ b
 one-is true = refl
 one-is false = refl
-
-pub or-none : (b : Bool) → b ≡ (b || false)
-or-none true = refl
-or-none false = refl
-
-or-one : (b : Bool) → (b || true) ≡ true
-or-one true = refl
-or-one false = refl
 
 -- ---- the map
 
@@ -130,7 +116,7 @@ module _ (v : Device) where
       let e : 8 ≡ k + suc (7 - k) = omega arith in
       let at : 8 * (i / 8) + k ≡ i = omega arith in
       ap (λ (n : ℕ). byteWith (packedBy p (8 * (i / 8)) n) k 1) e
-      ∙ word-put p (8 * (i / 8)) k (7 - k) q (ap (λ (b : Bool). p (8 * (i / 8) + k) || b) (eq-eqb _ _ at) ∙ or-one (p (8 * (i / 8) + k))) (λ j n. or-none (p j) ∙ ap (λ (b : Bool). p j || b) (sym (ne-eqb j i (λ z. n (z ∙ sym at)))))
+      ∙ word-put p (8 * (i / 8)) k (7 - k) q (ap (λ (b : Bool). p (8 * (i / 8) + k) || b) (eq-eqb _ _ at) ∙ or-right (p (8 * (i / 8) + k)) true refl) (λ j n. sym (or-false (p j)) ∙ ap (λ (b : Bool). p j || b) (sym (ne-eqb j i (λ z. n (z ∙ sym at)))))
       ∙ ap (packedBy q (8 * (i / 8))) (sym e)
 
   put-in : (p : ℕ → Bool) (i : ℕ) → i / 8 < Bytes → withBit (mapOf v p) i 1 ≡ mapOf v (λ j. p j || eqb j i)
@@ -149,7 +135,7 @@ module _ (v : Device) where
         | no e ↦
             getD-set-other (mapOf v p) (i / 8) j _ 0 e
             ∙ map-at p j b
-            ∙ words-same p q (8 * j) 8 (λ m a z. or-none (p m) ∙ ap (λ (b : Bool). p m || b) (sym (ne-eqb m i (λ y. e (omega arith)))))
+            ∙ words-same p q (8 * j) 8 (λ m a z. sym (or-false (p m)) ∙ ap (λ (b : Bool). p m || b) (sym (ne-eqb m i (λ y. e (omega arith)))))
       ])
 
   -- past it: nothing
@@ -157,7 +143,7 @@ module _ (v : Device) where
   unfolding withBit
   put-out p i l =
       set-out (mapOf v p) (i / 8) _ (omega (arith, map-length p))
-      ∙ map-same p (λ j. p j || eqb j i) (λ j h. or-none (p j) ∙ ap (λ (b : Bool). p j || b) (sym (ne-eqb j i (λ e. omega arith))))
+      ∙ map-same p (λ j. p j || eqb j i) (λ j h. sym (or-false (p j)) ∙ ap (λ (b : Bool). p j || b) (sym (ne-eqb j i (λ e. omega arith))))
 
   -- one bit put
   map-put : (p : ℕ → Bool) (i : ℕ) → withBit (mapOf v p) i 1 ≡ mapOf v (λ j. p j || eqb j i)
@@ -167,7 +153,7 @@ module _ (v : Device) where
   -- n words marked
   pub map-marking : (p : ℕ → Bool) (a n : ℕ) → marking (mapOf v p) a n ≡ mapOf v (λ i. p i || within a n i)
   unfolding marking
-  map-marking p a zero = ap (mapOf v) (fun-ext (λ i. or-none (p i) ∙ ap (λ (b : Bool). p i || b) (sym (within-none a i))))
+  map-marking p a zero = ap (mapOf v) (fun-ext (λ i. sym (or-false (p i)) ∙ ap (λ (b : Bool). p i || b) (sym (within-no a 0 i (λ h. omega (arith, h))))))
   map-marking p a (suc n) =
       ap (λ (l : List ℕ). withBit l (a + n) 1) (map-marking p a n)
       ∙ map-put (λ i. p i || within a n i) (a + n)
@@ -175,7 +161,7 @@ module _ (v : Device) where
 
   held-by : (p : ℕ → Bool) (a n : ℕ) (t : Bool) → pick t (marking (mapOf v p) a n) (mapOf v p) ≡ mapOf v (λ i. p i || t && within a n i)
   held-by p a n true = map-marking p a n
-  held-by p a n false = ap (mapOf v) (fun-ext (λ i. or-none (p i)))
+  held-by p a n false = ap (mapOf v) (fun-ext (λ i. sym (or-false (p i))))
 
   -- the words marked that an operand's extent holds
   pub map-held : (p : ℕ → Bool) (w : Place) (o : Operand) → markingHeld (mapOf v p) w o ≡ mapOf v (λ i. p i || holds i w o)

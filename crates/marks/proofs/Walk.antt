@@ -1,6 +1,6 @@
 -- A walk over records that marks words: each operand widens the map, and each record passed. Assumes nothing.
 use Prim.Native.Nat.{ℕ, zero, suc, _+_, _<_, _≤_}
-use mathlib.Core.Bool.{Bool, true, false, _&&_, _||_, or-assoc}
+use mathlib.Core.Bool.{Bool, true, false, _&&_, _||_, or-assoc, or-false}
 use mathlib.Core.List.{List}
 use mathlib.Core.Path.{_≡_, refl, sym, ap, fun-ext, _∙_}
 use native.Mathlib.Numerals.{add-one}
@@ -15,7 +15,7 @@ use Rattle.ec20.specs.declared.Place.{Place}
 use Rattle.ec20.specs.declared.Rec.{Rec}
 use Rattle.ec20.specs.declared.Row.{Row}
 use Rattle.marks.specs.Marked.{markingHeld, Widened, Passed}
-use Rattle.marks.proofs.Maps.{map-none, map-held, or-none}
+use Rattle.marks.proofs.Maps.{map-none, map-held}
 
 -- ---- operands
 
@@ -26,7 +26,7 @@ module _ (v : Device) (m : List ℕ) where
 
   -- nothing is marked
   pub widen-none : Widened v (λ i. false) m m
-  widen-none = record { by = λ t f. f ∙ ap (mapOf v) (fun-ext (λ i. or-none (t i))) }
+  widen-none = record { by = λ t f. f ∙ ap (mapOf v) (fun-ext (λ i. sym (or-false (t i)))) }
 
   -- one after the other
   pub widen-both : {s t : ℕ → Bool} {n o : List ℕ} → Widened v s m n → Widened v t n o → Widened v (λ i. s i || t i) m o
@@ -44,7 +44,7 @@ widen-three v test w r {a} {b} {c} {d} f g h = widen-both v a (widen-both v a f 
 -- one more number is tried
 some-more : (p : ℕ → Bool) (k n : ℕ) → someFrom p k (suc n) ≡ (someFrom p k n || p (k + n))
 unfolding someFrom
-some-more p k zero = let e : k ≡ k + 0 = omega arith in sym (or-none (p k)) ∙ ap p e
+some-more p k zero = let e : k ≡ k + 0 = omega arith in or-false (p k) ∙ ap p e
 some-more p k (suc n) =
     let e : suc k + n ≡ k + suc n = omega arith in
     ap (λ (b : Bool). p k || b) (some-more p (suc k) n ∙ ap (λ (j : ℕ). someFrom p (suc k) n || p j) e)

@@ -6,14 +6,10 @@ use native.Mathlib.Nat.{pow-suc, add-mul, mul-assoc, mul-comm, mul-le-mul-right}
 use native.Mathlib.Omega.{arith}
 use lib.Arith.{digits-mod, digits-div}
 use lib.Pow.{pow-add, high, low}
+use Rattle.ec20.proofs.Tests.{one-small}
 use Rattle.ec20.specs.Basics.{one-if}
 use Rattle.ec20.specs.Bits.{bitOf, byteWith}
 use Rattle.ec20.specs.UseMap.{packedBy}
-
--- one word is 0 or 1
-one-range : (b : Bool) → one-if b < 2
-one-range true = omega arith
-one-range false = omega arith
 
 -- n words make a number below 2 ^ n
 words-range : (p : ℕ → Bool) (a n : ℕ) → packedBy p a n < 2 ^ n
@@ -21,7 +17,7 @@ unfolding packedBy
 words-range p a zero = omega arith
 words-range p a (suc n) =
     let b : ℕ = one-if (p (a + n)) in
-    let l : b < 2 = one-range (p (a + n)) in
+    let l : b < 2 = one-small (p (a + n)) in
     omega (arith, words-range p a n, pow-suc 2 n, mul-le-mul-right {m = b} {n = 1} (2 ^ n) (omega arith))
 
 -- no word: 0
@@ -75,14 +71,14 @@ module _ (p : ℕ → Bool) (a k m : ℕ) where
 
   -- bit k is word a + k
   pub word-bit : bitOf (packedBy p a (k + suc m)) k ≡ one-if (p (a + k))
-  word-bit = ap (λ (x : ℕ). x % 2) top ∙ digits-mod (packedBy p (a + k + 1) m) (one-range (p (a + k)))
+  word-bit = ap (λ (x : ℕ). x % 2) top ∙ digits-mod (packedBy p (a + k + 1) m) (one-small (p (a + k)))
 
   -- bit k put to 1 marks word a + k
   pub word-put : (q : ℕ → Bool) → q (a + k) ≡ true → ((i : ℕ) → (i ≡ a + k → ⊥) → p i ≡ q i) → byteWith (packedBy p a (k + suc m)) k 1 ≡ packedBy q a (k + suc m)
   unfolding byteWith
   word-put q one same =
       ap₂ (λ (x y : ℕ). (x / 2 * 2 + 1) * 2 ^ k + y) top bottom
-      ∙ ap (λ (x : ℕ). (x * 2 + 1) * 2 ^ k + packedBy p a k) (digits-div (packedBy p (a + k + 1) m) (one-range (p (a + k))))
+      ∙ ap (λ (x : ℕ). (x * 2 + 1) * 2 ^ k + packedBy p a k) (digits-div (packedBy p (a + k + 1) m) (one-small (p (a + k))))
       ∙ ap₂ (λ (x y : ℕ). (x * 2 + 1) * 2 ^ k + y) (words-same p q (a + k + 1) m (λ i l u. same i (λ e. omega arith))) (words-same p q a k (λ i l u. same i (λ e. omega arith)))
       ∙ ap (λ (b : Bool). (packedBy q (a + k + 1) m * 2 + one-if b) * 2 ^ k + packedBy q a k) (sym one)
       ∙ sym (apart q a k m)

@@ -8,13 +8,14 @@ use native.Mathlib.Omega.{arith}
 use borrow.Author.Tests.{leb-true, eq-eqb, not-false}
 use lib.Dec.{leb}
 use Rattle.ec20.proofs.Tests.{both}
+use Rattle.ec20.proofs.Ranges.{within-yes}
 use Rattle.ec20.specs.declared.Operand.{Operand}
 use Rattle.ec20.specs.declared.Place.{Place}
 use Rattle.ec20.specs.Devices.{Device, kindD, meets, inside}
 use Rattle.ec20.specs.Exchange.{swapped}
 use Rattle.ec20.specs.Move.{Block, block, touches, partly, movedNumber}
 use Rattle.moved.specs.Placed.{Apart}
-use Rattle.moved.proofs.Swapped.{Clear, clear, within-yes, within-no, swap-block, swap-out}
+use Rattle.moved.proofs.Swapped.{Clear, clear, within-clear, swap-block, swap-out}
 
 -- the e words from a on are all in the block, or clear of block and place
 abbrev pub Fair : Block → ℕ → ℕ → ℕ → Type 0
@@ -50,5 +51,5 @@ module _ (v : Device) (b : Block) (q : ℕ) (two : Apart v b q) where
   moved-swapped e o z k (inl h) =
       rw (eq-eqb _ _ k, within-yes (b .start) (b .length) (o .value) (h .0) (omega arith)) (sym (swap-block v b q two (o .value) (h .0) (omega arith)))
   moved-swapped e o z k (inr h) =
-      rw (eq-eqb _ _ k, within-no (o .value) e (b .start) (b .length) (o .value) (h .0) (omega arith) (omega arith))
+      rw (eq-eqb _ _ k, within-clear (o .value) e (b .start) (b .length) (o .value) (h .0) (omega arith) (omega arith))
       (sym (swap-out v b q two (o .value) e (o .value) (h .0) (h .1) (omega arith) (omega arith)))

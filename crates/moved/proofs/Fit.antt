@@ -19,7 +19,7 @@ use Rattle.moved.specs.Placed.{Apart}
 use Rattle.moved.proofs.Swapped.{clear, not-meets, swap-block, swap-out}
 use Rattle.moved.proofs.Along.{Fair, fair, goes-along, moved-swapped}
 use Rattle.moved.proofs.Bytes.{movedOperand}
-use Rattle.moved.proofs.InD.{isWord, at-word, extent-in, other-number, not-in-D}
+use Rattle.ec20.proofs.InD.{isWord, at-word, extent-in, other-number, not-in-D}
 
 -- an operand o at the place p that the check allows, that is not split and keeps clear of the place at q
 pub record Fit (v : Device) (b : Block) (q : ℕ) (p : Place) (o : Operand) : Type 0 where

@@ -4,7 +4,6 @@ pub mod Swapped
 pub mod Along
 -- Bytes: the moved file, record by record
 pub mod Bytes
-pub mod InD
 pub mod Rows
 pub mod Fit
 pub mod Records

@@ -1,51 +1,19 @@
--- What the table says of a form: a rule that is computed over its rows.
-use Prim.Native.Nat.{ℕ, zero, suc, _+_, _*_, _≤_}
+-- What the table says of a form, computed over its rows.
+use Prim.Native.Nat.{ℕ, _*_, _≤_}
 use mathlib.Core.Bool.{Bool, true, false, not, _&&_, _||_}
-use mathlib.Core.List.{List, [], _∷_}
-use mathlib.Core.Path.{_≡_, refl, subst}
-use native.Mathlib.Omega.{arith}
+use mathlib.Core.Path.{_≡_, refl}
 use lib.Dec.{leb, eqb}
-use lib.ListN.{getD}
 use borrow.Author.Tests.{leb-true, not-true}
-use Rattle.ec20.proofs.Tests.{both}
+use Rattle.ec20.proofs.EachRow.{every, row-test}
+use Rattle.ec20.proofs.InD.{isWord}
+use Rattle.ec20.proofs.Tests.{both, each, implied}
 use Rattle.ec20.specs.Basics.{pick}
-use Rattle.ec20.specs.declared.Operand.{Operand}
 use Rattle.ec20.specs.declared.Place.{Place}
-use Rattle.ec20.specs.declared.Rec.{Rec}
 use Rattle.ec20.specs.declared.Row.{Row}
 use Rattle.ec20.specs.Table.{table, unknown, rowOf, formContact, formCoil, formTimer, formFor, formJump, formLabel, formThree, formTwo, formOne}
 use Rattle.ec20.specs.Step.{widthOf}
 use Rattle.ec20.specs.Words.{is}
 use Rattle.moving.specs.Rename.{wordsOf, writtenBy}
-use Rattle.refusals.proofs.Operands.{each}
-use Rattle.refusals.specs.Records.{Operand-at, first, second, third}
-use Rattle.moved.proofs.InD.{isWord}
-
--- the test holds of each row, at its number
-abbrev every : (ℕ → Row → Bool) → ℕ → List Row → Bool
-every test k [] = true
-every test k (w ∷ l) = test k w && every test (suc k) l
-
-at-row : (test : ℕ → Row → Bool) → ((n : ℕ) → test n unknown ≡ true) → (l : List Row) (k n : ℕ) → every test k l ≡ true
-    → test (k + n) (getD l n unknown) ≡ true
-at-row test u [] k n e = u (k + n)
-at-row test u (w ∷ l) k zero e =
-    let z : k ≡ k + 0 = omega arith in
-    subst (λ (i : ℕ). test i w ≡ true) z (both (test k w) (every test (suc k) l) e .0)
-at-row test u (w ∷ l) k (suc n) e =
-    let z : suc k + n ≡ k + suc n = omega arith in
-    subst (λ (i : ℕ). test i (getD l n unknown) ≡ true) z (at-row test u l (suc k) n (both (test k w) (every test (suc k) l) e .1))
-
--- so it holds of the row of a number
-row-test : (test : ℕ → Row → Bool) → ((n : ℕ) → test n unknown ≡ true) → every test 0 table ≡ true → (n : ℕ) → test n (rowOf n) ≡ true
-unfolding rowOf
-row-test test u e n =
-    let z : 0 + n ≡ n = omega arith in
-    subst (λ (i : ℕ). test i (rowOf n) ≡ true) z (at-row test u table 0 n e)
-
-implied : (a b : Bool) → (not a || b) ≡ true → a ≡ true → b ≡ true
-implied true b e q = e
-implied false b e q = absurd (let z : _≡_ {A = ℕ} 0 1 = cc in omega arith)
 
 -- of the rows of one form
 abbrev of-form : ℕ → (ℕ → Row → Bool) → ℕ → Row → Bool
@@ -54,23 +22,6 @@ of-form form test n w = not (eqb (w .form) form) || test n w
 form-test : (form : ℕ) (test : ℕ → Row → Bool) → ((n : ℕ) → of-form form test n unknown ≡ true) → every (of-form form test) 0 table ≡ true
     → (n : ℕ) → eqb (rowOf n .form) form ≡ true → test n (rowOf n) ≡ true
 form-test form test u e n = implied (eqb (rowOf n .form) form) (test n (rowOf n)) (row-test (of-form form test) u e n)
-
--- ---- a place for words takes a word at least
-
-abbrev some : Place → Bool
-some p = not (isWord p) || leb 1 (p .extent)
-
-somewhere : (n : ℕ) → (some (rowOf n .first) && some (rowOf n .second) && some (rowOf n .third)) ≡ true
-unfolding table
-somewhere n = row-test (λ n w. some (w .first) && some (w .second) && some (w .third)) (λ n. refl) refl n
-
-some-at : (r : Rec) {p : Place} {o : Operand} → Operand-at r p o → some p ≡ true
-some-at r first = each (some (rowOf (r .number) .first)) _ _ (somewhere (r .number)) .0
-some-at r second = each (some (rowOf (r .number) .first)) (some (rowOf (r .number) .second)) _ (somewhere (r .number)) .1
-some-at r third = each (some (rowOf (r .number) .first)) (some (rowOf (r .number) .second)) (some (rowOf (r .number) .third)) (somewhere (r .number)) .2
-
-pub some-word : (r : Rec) {p : Place} {o : Operand} → Operand-at r p o → isWord p ≡ true → 1 ≤ p .extent
-some-word r {p} at h = leb-true _ _ (implied (isWord p) (leb 1 (p .extent)) (some-at r at) h)
 
 -- ---- bits, timers, passes and labels do not stand at places for words
 

@@ -6,24 +6,13 @@ use mathlib.Core.Path.{_≡_, refl, ap, _∙_}
 use native.Mathlib.Omega.{arith}
 use native.Mathlib.Decide.{decLt}
 use lib.Dec.{ltb}
-use borrow.Author.Tests.{lt-ltb, le-ltb, le-leb, lt-leb, ltb-false}
+use borrow.Author.Tests.{le-ltb, ltb-false}
+use Rattle.ec20.proofs.Ranges.{within-yes, within-no}
 use Rattle.ec20.specs.Devices.{Device, within, meets}
 use Rattle.ec20.specs.Exchange.{swapped}
 use Rattle.ec20.specs.Move.{Block}
 use Rattle.moving.specs.Rename.{Swap}
 use Rattle.moved.specs.Placed.{Apart}
-
-pub within-yes : (s n i : ℕ) → s ≤ i → i < s + n → within s n i ≡ true
-unfolding within
-within-yes s n i h l = rw (le-leb _ _ h, lt-ltb _ _ l)
-
-within-low : (s n i : ℕ) → i < s → within s n i ≡ false
-unfolding within
-within-low s n i h = rw (lt-leb _ _ h)
-
-within-high : (s n i : ℕ) → s + n ≤ i → within s n i ≡ false
-unfolding within
-within-high s n i h = rw (le-leb _ _ (let k : s ≤ i = omega arith in k), le-ltb _ _ h)
 
 -- the e words from a on lie clear of the n from s on: all before them, or all after
 abbrev pub Clear : ℕ → ℕ → ℕ → ℕ → Type 0
@@ -47,9 +36,9 @@ not-meets a e s n (inl h) = go (ltb a (s + n))
 not-meets a e s n (inr h) = rw (le-ltb _ _ h)
 
 -- a word of theirs is none of the n
-pub within-no : (a e s n i : ℕ) → Clear a e s n → a ≤ i → i < a + e → within s n i ≡ false
-within-no a e s n i (inl h) l u = within-low s n i (omega arith)
-within-no a e s n i (inr h) l u = within-high s n i (omega arith)
+pub within-clear : (a e s n i : ℕ) → Clear a e s n → a ≤ i → i < a + e → within s n i ≡ false
+within-clear a e s n i (inl h) l u = within-no s n i (λ k. omega arith)
+within-clear a e s n i (inr h) l u = within-no s n i (λ k. omega arith)
 
 module _ (v : Device) (b : Block) (q : ℕ) (two : Apart v b q) where
   apart : Clear q (b .length) (b .start) (b .length)
@@ -61,11 +50,11 @@ module _ (v : Device) (b : Block) (q : ℕ) (two : Apart v b q) where
 
   swap-place : (i : ℕ) → q ≤ i → i < q + b .length → swapped b q i ≡ i - q + b .start
   unfolding swapped
-  swap-place i h l = rw (within-no q (b .length) (b .start) (b .length) i apart h l, within-yes q (b .length) i h l)
+  swap-place i h l = rw (within-clear q (b .length) (b .start) (b .length) i apart h l, within-yes q (b .length) i h l)
 
   pub swap-out : (a e i : ℕ) → Clear a e (b .start) (b .length) → Clear a e q (b .length) → a ≤ i → i < a + e → swapped b q i ≡ i
   unfolding swapped
-  swap-out a e i x y l u = rw (within-no a e (b .start) (b .length) i x l u, within-no a e q (b .length) i y l u)
+  swap-out a e i x y l u = rw (within-clear a e (b .start) (b .length) i x l u, within-clear a e q (b .length) i y l u)
 
   -- where a number lies
   data View (i : ℕ) : Type 0 where

@@ -1,7 +1,6 @@
 -- What it says of block and pool that 10 to 13 refuse nothing. Assumes nothing.
 use mathlib.Core.Path.{_≡_, sym, _∙_}
-use Rattle.blocks.proofs.NoFault.{block-inside, pool-inside}
-use Rattle.bound.proofs.Accepted.{then-fine}
+use Rattle.ec20.proofs.NoFault.{then-fine, block-inside, pool-inside}
 use Rattle.ec20.specs.Basics.{then}
 use Rattle.ec20.specs.Devices.{ec20}
 use Rattle.ec20.specs.File.{Records}
@@ -16,6 +15,6 @@ unfolding judgeMove
 is-sized rs b l e f =
     let ten = then-fine (blockFault ec20 b) (then (poolFault ec20 l) (then (blockWork ec20 b) (splitFault rs b))) (sym e ∙ f) in
     let eleven = then-fine (poolFault ec20 l) (then (blockWork ec20 b) (splitFault rs b)) (ten .1) in
-    let x = block-inside b (ten .0) in
-    let y = pool-inside l (eleven .0) in
+    let x = block-inside ec20 b (ten .0) in
+    let y = pool-inside ec20 l (eleven .0) in
     record { some = x .0; block = x .1; pool = y .0; most = y .1 }

@@ -1,46 +1,33 @@
 -- 10 to 13 as the mover judges them, and by their words. Assumes nothing.
 use Prim.Native.Nat.{ℕ, _+_, _<_, _≤_, zero-le}
-use mathlib.Core.Bool.{Bool, true, false, not, _&&_, _||_}
-use mathlib.Core.Path.{_≡_, refl, sym, ap₂, _∙_}
+use mathlib.Core.Bool.{true, false, not, _&&_}
+use mathlib.Core.Logic.{inl, inr}
+use mathlib.Core.Path.{_≡_, refl, sym, ap, ap₂, _∙_}
 use native.Mathlib.Decide.{decLt, decLe}
 use native.Mathlib.Omega.{arith}
 use lib.Dec.{ltb, leb}
-use borrow.Author.Tests.{ltb-true, leb-true, eqb-true, lt-ltb, le-leb, eq-eqb, not-true}
+use borrow.Author.Tests.{ltb-true, ltb-false, leb-true, leb-false, eqb-true, eq-eqb, not-true}
 use Rattle.bound.proofs.First.{first-at, no-first}
-use Rattle.ec20.proofs.Tests.{both, differ, picked}
+use Rattle.ec20.proofs.Ranges.{is-meets, common as shared, common-meets, inside-yes, is-inside, one-out}
+use Rattle.ec20.proofs.Tests.{both, differ, picked, one-fails, is-false}
 use Rattle.ec20.specs.Basics.{firstAt, refusedAt}
 use Rattle.ec20.specs.Devices.{Device, kindD, meets, inside, meetsWork}
 use Rattle.ec20.specs.File.{Records}
 use Rattle.ec20.specs.Move.{Block, Pool, blockFault, poolFault, blockWork, touches, partly, splitFault}
 use Rattle.ec20.specs.Operands.{kindIs}
-use Rattle.ec20.specs.Table.{rowOf}
-use Rattle.ec20.specs.UseMap.{someOperand, recordHas}
+use Rattle.ec20.specs.UseMap.{recordHas}
 use Rattle.ec20.specs.declared.Found.{Found}
 use Rattle.ec20.specs.declared.Found.the-variants.{At, Nowhere}
-use Rattle.ec20.specs.declared.Judged.{Judged}
 use Rattle.ec20.specs.declared.Judged.the-variants.{Fine, Fault}
 use Rattle.ec20.specs.declared.Operand.{Operand}
 use Rattle.ec20.specs.declared.Place.{Place}
 use Rattle.ec20.specs.declared.Rec.{Rec}
-use Rattle.marks.proofs.Some.{or-right, three, one-first, one-second}
 use Rattle.mover.specs.Lines.{Line10, empty, not-inside, Line11, above, past, In, Line12, meets as common, Extent, Line13, split}
+use Rattle.refusals.proofs.Has.{has-one, one-has}
 use Rattle.refusals.proofs.Search.{Judges}
-use Rattle.refusals.proofs.Work.{shared, sharing}
-use Rattle.refusals.specs.Records.{Operand-at, first, second, third}
-
--- a judgement that tells no record: no fault, and the line does not hold; or the number, and it does
-abbrev pub Says : ℕ → Type 0 → Judged → Type 0
-Says m line Fine = line → ⊥
-Says m line (Fault n k) = (n ≡ m) × (k ≡ 0) × line
-
--- so what is judged is decided by the line
-pub says-fine : (m : ℕ) (line : Type 0) (x : Judged) → Says m line x → (line → ⊥) → x ≡ Fine
-says-fine m line Fine s h = refl
-says-fine m line (Fault n k) s h = absurd (h (s .2))
-
-pub says-fault : (m : ℕ) (line : Type 0) (x : Judged) → Says m line x → line → x ≡ Fault m 0
-says-fault m line Fine s h = absurd (s h)
-says-fault m line (Fault n k) s h = ap₂ Fault (s .0) (s .1)
+use Rattle.refusals.proofs.Tells.{Tells, tells}
+use Rattle.refusals.proofs.Work.{shared as shared-work, sharing}
+use Rattle.refusals.specs.Records.{Operand-at}
 
 -- ---- 10 and 11
 
@@ -48,43 +35,31 @@ fits-10 : (v : Device) (b : Block) → (ltb 0 (b .length) && leb (b .start + b .
 fits-10 v b e (empty z) = let h : 0 < b .length = ltb-true _ _ (both (ltb 0 (b .length)) (leb (b .start + b .length) (v .words)) e .0) in omega arith
 fits-10 v b e (not-inside z) = let h : b .start + b .length ≤ v .words = leb-true _ _ (both (ltb 0 (b .length)) (leb (b .start + b .length) (v .words)) e .1) in omega arith
 
-pub judged-10 : (v : Device) (b : Block) → Says 10 (Line10 v b) (blockFault v b)
+out-10 : (v : Device) (b : Block) → (ltb 0 (b .length) && leb (b .start + b .length) (v .words)) ≡ false → Line10 v b
+out-10 v b e =
+    elim (one-fails (ltb 0 (b .length)) (leb (b .start + b .length) (v .words)) e) [
+      | inl g ↦ let h : b .length ≤ 0 = ltb-false _ _ g in empty (omega arith)
+      | inr g ↦ not-inside (leb-false _ _ g)
+    ]
+
+pub judged-10 : (v : Device) (b : Block) → Tells 10 (Line10 v b) (blockFault v b)
 unfolding blockFault
-judged-10 v b =
-    picked (Says 10 (Line10 v b)) (ltb 0 (b .length) && leb (b .start + b .length) (v .words)) Fine (Fault 10 0)
-    (fits-10 v b)
-    (λ e. (
-      refl,
-      refl,
-      elim (decLt 0 (b .length)) [
-        | no g ↦ empty (omega arith)
-        | yes g ↦ elim (decLe (b .start + b .length) (v .words)) [
-          | no h ↦ not-inside (omega arith)
-          | yes h ↦ differ (sym (ap₂ _&&_ (lt-ltb _ _ g) (le-leb _ _ h)) ∙ e)
-        ]
-      ],
-    ))
+judged-10 v b = tells (ltb 0 (b .length) && leb (b .start + b .length) (v .words)) 10 (Line10 v b) (fits-10 v b) (out-10 v b)
 
 fits-11 : (v : Device) (l : Pool) → (leb (l .start) (l .end) && leb (l .end) (v .words)) ≡ true → Line11 v l → ⊥
 fits-11 v l e (above z) = let h : l .start ≤ l .end = leb-true _ _ (both (leb (l .start) (l .end)) (leb (l .end) (v .words)) e .0) in omega arith
 fits-11 v l e (past z) = let h : l .end ≤ v .words = leb-true _ _ (both (leb (l .start) (l .end)) (leb (l .end) (v .words)) e .1) in omega arith
 
-pub judged-11 : (v : Device) (l : Pool) → Says 11 (Line11 v l) (poolFault v l)
+out-11 : (v : Device) (l : Pool) → (leb (l .start) (l .end) && leb (l .end) (v .words)) ≡ false → Line11 v l
+out-11 v l e =
+    elim (one-fails (leb (l .start) (l .end)) (leb (l .end) (v .words)) e) [
+      | inl g ↦ above (leb-false _ _ g)
+      | inr g ↦ past (leb-false _ _ g)
+    ]
+
+pub judged-11 : (v : Device) (l : Pool) → Tells 11 (Line11 v l) (poolFault v l)
 unfolding poolFault
-judged-11 v l =
-    picked (Says 11 (Line11 v l)) (leb (l .start) (l .end) && leb (l .end) (v .words)) Fine (Fault 11 0)
-    (fits-11 v l)
-    (λ e. (
-      refl,
-      refl,
-      elim (decLe (l .start) (l .end)) [
-        | no g ↦ above (omega arith)
-        | yes g ↦ elim (decLe (l .end) (v .words)) [
-          | no h ↦ past (omega arith)
-          | yes h ↦ differ (sym (ap₂ _&&_ (le-leb _ _ g) (le-leb _ _ h)) ∙ e)
-        ]
-      ],
-    ))
+judged-11 v l = tells (leb (l .start) (l .end) && leb (l .end) (v .words)) 11 (Line11 v l) (fits-11 v l) (out-11 v l)
 
 -- ---- a block that is not refused by 10
 
@@ -107,12 +82,12 @@ pool-words v l h = elim (decLe (l .end) (v .words)) [ yes g ↦ g | no g ↦ abs
 off-work : (v : Device) (b : Block) → meetsWork v (b .start) (b .length) ≡ false → Line12 v b → ⊥
 off-work v b e (common i x w) = differ (sym (sharing v (b .start) (b .length) i (x .from) (x .to) w) ∙ e)
 
-pub judged-12 : (v : Device) (b : Block) → (Line10 v b → ⊥) → Says 12 (Line12 v b) (blockWork v b)
+pub judged-12 : (v : Device) (b : Block) → (Line10 v b → ⊥) → Tells 12 (Line12 v b) (blockWork v b)
 unfolding blockWork
 judged-12 v b h =
-    picked (Says 12 (Line12 v b)) (meetsWork v (b .start) (b .length)) (Fault 12 0) Fine
+    picked (Tells 12 (Line12 v b)) (meetsWork v (b .start) (b .length)) (Fault 12 0) Fine
     (λ e.
-    let s = shared v (b .start) (b .length) e (some-words v b h) (inside-words v b h) in
+    let s = shared-work v (b .start) (b .length) e (some-words v b h) (inside-words v b h) in
     (refl, refl, common (s .0) (record { from = s .1; to = s .2 }) (s .3)))
     (off-work v b)
 
@@ -128,80 +103,44 @@ module _ (b : Block) (p : Place) (o : Operand) where
   -- partly in the block: a word of the extent that is in it, and one that is not
   pub partly-words : 0 < b .length → partly b p o ≡ true
       → (i : ℕ) × (j : ℕ) × Extent p o i × In b i × Extent p o j × (In b j → ⊥)
-  unfolding partly touches meets inside
+  unfolding partly touches
   partly-words some e =
-      let x = both (kindIs kindD o && (ltb a (b .start + b .length) && ltb (b .start) (a + n))) (not (leb (b .start) a && leb (a + n) (b .start + b .length))) e in
-      let y = both (kindIs kindD o) (ltb a (b .start + b .length) && ltb (b .start) (a + n)) (x .0) in
-      let z = both (ltb a (b .start + b .length)) (ltb (b .start) (a + n)) (y .1) in
+      let x = both (kindIs kindD o && meets a n (b .start) (b .length)) (not (inside a n (b .start) (b .length))) e in
+      let y = both (kindIs kindD o) (meets a n (b .start) (b .length)) (x .0) in
       let k : o .kind ≡ kindD = eqb-true _ _ (y .0) in
-      let lo : a < b .start + b .length = ltb-true _ _ (z .0) in
-      let hi : b .start < a + n = ltb-true _ _ (z .1) in
-      let out : (leb (b .start) a && leb (a + n) (b .start + b .length)) ≡ false = not-true _ (x .1) in
-      elim (decLt a (b .start)) [
-        | yes g ↦ (
-          b .start,
-          a,
-          record { in-D = k; from = omega arith; to = hi },
-          record { from = omega arith; to = omega arith },
-          record { in-D = k; from = omega arith; to = omega arith },
-          λ h. omega (arith, h .from),
-        )
-        | no g ↦ elim (decLe (a + n) (b .start + b .length)) [
-          | yes h ↦
-              let s : b .start ≤ a = omega arith in
-              differ (sym (ap₂ _&&_ (le-leb _ _ s) (le-leb _ _ h)) ∙ out)
-          | no h ↦ (
-            a,
-            b .start + b .length,
-            record { in-D = k; from = omega arith; to = omega arith },
-            record { from = omega arith; to = lo },
-            record { in-D = k; from = omega arith; to = omega arith },
-            λ q. omega (arith, q .to),
-          )
-        ]
+      let z = is-meets a n (b .start) (b .length) (y .1) in
+      let lo : a < b .start + b .length = z .0 in
+      let hi : b .start < a + n = z .1 in
+      elim (decLt 0 n) [
+        | yes g ↦
+            let c = shared a n (b .start) (b .length) g some (y .1) in
+            let d = one-out a n (b .start) (b .length) g (not-true _ (x .1)) in (
+              c .0,
+              d .0,
+              record { in-D = k; from = c .1; to = c .2 },
+              record { from = c .3; to = c .4 },
+              record { in-D = k; from = d .1; to = d .2 },
+              λ h. d .3 (h .from) (h .to),
+            )
+        | no g ↦ differ (sym (inside-yes a n (b .start) (b .length) (omega arith) (omega arith)) ∙ not-true _ (x .1))
       ]
 
-  not-all : (j : ℕ) → Extent p o j → (In b j → ⊥) → (t : Bool) → (leb (b .start) a && leb (a + n) (b .start + b .length)) ≡ t → not t ≡ true
-  not-all j x out false e = refl
-  not-all j x out true e =
-      let z = both (leb (b .start) a) (leb (a + n) (b .start + b .length)) e in
-      let lo : b .start ≤ a = leb-true _ _ (z .0) in
-      let hi : a + n ≤ b .start + b .length = leb-true _ _ (z .1) in
-      absurd (out (record { from = omega (arith, x .from); to = omega (arith, x .to) }))
-
   pub words-partly : (i j : ℕ) → Extent p o i → In b i → Extent p o j → (In b j → ⊥) → partly b p o ≡ true
-  unfolding partly touches meets inside
+  unfolding partly touches
   words-partly i j x y z out =
-      let lo : a < b .start + b .length = omega (arith, x .from, y .to) in
-      let hi : b .start < a + n = omega (arith, x .to, y .from) in
-      ap₂ _&&_ (ap₂ _&&_ (eq-eqb _ _ (x .in-D)) (ap₂ _&&_ (lt-ltb _ _ lo) (lt-ltb _ _ hi)))
-      (not-all j z out (leb (b .start) a && leb (a + n) (b .start + b .length)) refl)
+      ap₂ _&&_ (ap₂ _&&_ (eq-eqb _ _ (x .in-D)) (common-meets a n (b .start) (b .length) i (x .from) (x .to) (y .from) (y .to)))
+      (ap not (is-false (inside a n (b .start) (b .length))
+      (λ e. let h = is-inside a n (b .start) (b .length) e in out (record { from = omega (arith, h .0, z .from); to = omega (arith, h .1, z .to) }))))
 
 module _ (b : Block) (r : Rec) where
-  abbrev One : Bool
-  One = partly b (rowOf (r .number) .first) (r .first)
-
-  abbrev Two : Bool
-  Two = partly b (rowOf (r .number) .second) (r .second)
-
-  abbrev Three : Bool
-  Three = partly b (rowOf (r .number) .third) (r .third)
-
   by-words : 0 < b .length → {p : Place} {o : Operand} → Operand-at r p o → partly b p o ≡ true → Line13 b r
   by-words some {p} {o} at e = let w = partly-words b p o some e in split (w .0) (w .1) at (w .2) (w .3) (w .4) (w .5)
 
   to-line : 0 < b .length → recordHas (partly b) r ≡ true → Line13 b r
-  unfolding someOperand
-  to-line some e = three One Two Three e (by-words some first) (by-words some second) (by-words some third)
-
-  by-place : {p : Place} {o : Operand} → Operand-at r p o → partly b p o ≡ true → (One || Two || Three) ≡ true
-  by-place first e = one-first One Two Three e
-  by-place second e = one-second One Two Three e
-  by-place third e = or-right (One || Two) Three e
+  to-line some e = let s = has-one (partly b) r e in by-words some (s .2) (s .3)
 
   from-line : Line13 b r → recordHas (partly b) r ≡ true
-  unfolding someOperand
-  from-line (split {p} {o} i j at x y z out) = by-place at (words-partly b p o i j x y z out)
+  from-line (split {p} {o} i j at x y z out) = one-has (partly b) r at (words-partly b p o i j x y z out)
 
 pub judged-13 : (rs : Records) (b : Block) → 0 < b .length → Judges 13 (rs .count) (λ j. Line13 b (rs .at j)) (splitFault rs b)
 unfolding splitFault

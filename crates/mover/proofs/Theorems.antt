@@ -1,8 +1,9 @@
 -- THE MOVER'S TABLE OF REFUSALS: the mover answers as the table says (told), and the table says one answer (answer). Assumes nothing.
 use Prim.Native.Nat.{ℕ, _≤_}
 use mathlib.Core.List.{List}
-use mathlib.Core.Path.{_≡_, refl, sym, ap, subst, _∙_}
+use mathlib.Core.Path.{_≡_, refl, sym, ap, _∙_}
 use native.Mathlib.Omega.{arith}
+use Rattle.ec20.proofs.NoFault.{accepted-records}
 use Rattle.ec20.proofs.Tests.{one-answer}
 use Rattle.ec20.specs.Basics.{then}
 use Rattle.ec20.specs.Check.{checkFor}
@@ -17,28 +18,22 @@ use Rattle.ec20.specs.declared.Judged.the-variants.{Fine, Fault}
 use Rattle.ec20.specs.declared.Moved.{Moved}
 use Rattle.ec20.specs.declared.Verdict.{Verdict}
 use Rattle.ec20.specs.declared.Verdict.the-variants.{Accepted, Refused as Unfit}
-use Rattle.mover.proofs.LineLaws.{Says, says-fine, says-fault, judged-10, judged-11, judged-12, judged-13, some-words, pool-order, pool-words}
+use Rattle.mover.proofs.LineLaws.{judged-10, judged-11, judged-12, judged-13, some-words, pool-order, pool-words}
 use Rattle.mover.specs.Lines.{Line10, Line11, Line12, Line13}
 use Rattle.mover.specs.Table.{Passes, Not10, Not11, Not12, Not13, Told, told-1-8, told-10, told-11, told-12, told-13, told-14, moved}
 use Rattle.places.proofs.Theorems.{the-place, no-place}
 use Rattle.places.specs.Right.{Right}
-use Rattle.refusals.proofs.Check.{told as check-told}
-use Rattle.refusals.proofs.Records.{judged-2-4, bad-fine}
+use Rattle.refusals.proofs.Tells.{Tells, tells-fine, tells-fault}
 use Rattle.refusals.proofs.Search.{Judges, judged-fine, judged-fault}
-use Rattle.refusals.specs.Table.{recordAt, Not2-4, Told as CheckTold, accepted}
+use Rattle.refusals.specs.Table.{recordAt}
 
 -- two results that meet the contract are equal: answer and file
 pub one-move : (f : List ℕ) (b : Block) (l : Pool) {r s : Move} → r ≡ moveOf f b l → s ≡ moveOf f b l → r ≡ s
 one-move f b l = one-answer
 
 -- an accepted file has no record that 2, 3 or 4 refuses
-none-bad : (v : Device) (f : List ℕ) {n w : ℕ} → CheckTold v f (Accepted n w) → Not2-4 v f
-none-bad v f (accepted a b c d e h) = b
-
 sound : (v : Device) (f : List ℕ) → Passes v f → firstBad v (recordsOf f) ≡ Fine
-sound v f w =
-    bad-fine v (recordsOf f) (firstBad v (recordsOf f)) (judged-2-4 v (recordsOf f))
-    (none-bad v f (subst (CheckTold v f) (w .accepted) (check-told v f)))
+sound v f w = accepted-records v f (w .records) (w .steps) (w .accepted)
 
 module _ (v : Device) (f : List ℕ) (b : Block) (l : Pool) where
   abbrev line-13 : ℕ → Type 0
@@ -75,7 +70,7 @@ module _ (v : Device) (f : List ℕ) (b : Block) (l : Pool) where
   by-place w x y u s Nowhere h = told-14 w x y u s h
 
   -- 10, then 11, then 12, then 13, then 14
-  by-order : Passes v f → (i j k m : Judged) (z : Found) → Says 10 (Line10 v b) i → Says 11 (Line11 v l) j → (Not10 v b → Says 12 (Line12 v b) k)
+  by-order : Passes v f → (i j k m : Judged) (z : Found) → Tells 10 (Line10 v b) i → Tells 11 (Line11 v l) j → (Not10 v b → Tells 12 (Line12 v b) k)
       → (Not10 v b → Judges 13 (countOf f) line-13 m)
       → (Not10 v b → Not11 v l → Finds z)
       → Told v f b l (moveIf (then i (then j (then k m))) z f b .answer)
@@ -107,13 +102,13 @@ module _ (v : Device) (f : List ℕ) (b : Block) (l : Pool) where
   answered w i j k m z = rw (w .accepted, i, j, k, m, z) refl
 
   none-10 : Not10 v b → blockFault v b ≡ Fine
-  none-10 x = says-fine 10 (Line10 v b) (blockFault v b) (judged-10 v b) x
+  none-10 x = tells-fine 10 (Line10 v b) (blockFault v b) (judged-10 v b) x
 
   none-11 : Not11 v l → poolFault v l ≡ Fine
-  none-11 x = says-fine 11 (Line11 v l) (poolFault v l) (judged-11 v l) x
+  none-11 x = tells-fine 11 (Line11 v l) (poolFault v l) (judged-11 v l) x
 
   none-12 : Not10 v b → Not12 v b → blockWork v b ≡ Fine
-  none-12 x y = says-fine 12 (Line12 v b) (blockWork v b) (judged-12 v b x) y
+  none-12 x y = tells-fine 12 (Line12 v b) (blockWork v b) (judged-12 v b x) y
 
   none-13 : Not10 v b → Not13 f b → splitFault (recordsOf f) b ≡ Fine
   none-13 x y = judged-fine 13 (countOf f) line-13 (splitFault (recordsOf f) b) (judged-13 (recordsOf f) b (some-words v b x)) y
@@ -122,9 +117,9 @@ module _ (v : Device) (f : List ℕ) (b : Block) (l : Pool) where
   pub answer : {r : Moved} → Told v f b l r → moveFor v f b l .answer ≡ r
   unfolding moveFor
   answer (told-1-8 e) = ap (λ (r : Verdict). moveAfter v r f b l .answer) e
-  answer (told-10 w h) = answered w (says-fault 10 (Line10 v b) (blockFault v b) (judged-10 v b) h) refl refl refl refl
-  answer (told-11 w x h) = answered w (none-10 x) (says-fault 11 (Line11 v l) (poolFault v l) (judged-11 v l) h) refl refl refl
-  answer (told-12 w x y h) = answered w (none-10 x) (none-11 y) (says-fault 12 (Line12 v b) (blockWork v b) (judged-12 v b x) h) refl refl
+  answer (told-10 w h) = answered w (tells-fault 10 (Line10 v b) (blockFault v b) (judged-10 v b) h) refl refl refl refl
+  answer (told-11 w x h) = answered w (none-10 x) (tells-fault 11 (Line11 v l) (poolFault v l) (judged-11 v l) h) refl refl refl
+  answer (told-12 w x y h) = answered w (none-10 x) (none-11 y) (tells-fault 12 (Line12 v b) (blockWork v b) (judged-12 v b x) h) refl refl
   answer (told-13 {k = k} w x y u h) =
       answered w (none-10 x) (none-11 y) (none-12 x u)
       (judged-fault 13 (countOf f) line-13 k (splitFault (recordsOf f) b) (judged-13 (recordsOf f) b (some-words v b x)) h)

@@ -1,17 +1,15 @@
 -- "A word not marked written is changed by no scan."
-use Prim.Native.Nat.{ℕ, zero, suc, _+_, _≤_, _<_}
-use mathlib.Core.Bool.{Bool, false}
+use Prim.Native.Nat.{ℕ, _<_}
+use mathlib.Core.Bool.{false}
 use mathlib.Core.List.{List, [], _∷_, map}
-use mathlib.Core.Path.{_≡_, refl, ap, ap₂, subst, _∙_}
+use mathlib.Core.Path.{_≡_, refl, ap, ap₂, _∙_}
 use native.Mathlib.Omega.{arith}
-use native.Mathlib.Decide.{ℕ-discrete}
 use lib.Dec.{ltb}
 use lib.IntN.{ℤ}
 use borrow.Author.Tests.{ltb-true}
 use Rattle.ec20.specs.declared.Instr.{Instr}
 use Rattle.ec20.specs.declared.Verdict.{Verdict}
 use Rattle.ec20.specs.declared.Verdict.the-variants.{Accepted, Refused}
-use Rattle.ec20.specs.Basics.{someFrom}
 use Rattle.ec20.specs.Devices.{Device, ec20}
 use Rattle.ec20.specs.File.{Records, recordsOf}
 use Rattle.ec20.specs.Code.{Program, codeOf, programOf}
@@ -21,22 +19,12 @@ use Rattle.ec20.specs.Memory.{Memory}
 use Rattle.ec20.specs.Step.{World, execOf}
 use Rattle.ec20.specs.Scan.{Scan, runScan, fitting, scanIf, scanFor, scanOf}
 use Rattle.ec20.specs.UseMap.{recordHas, someRecord, markedWritten}
-use Rattle.ec20.proofs.Tests.{neither, picked}
+use Rattle.ec20.proofs.Some.{none-at}
+use Rattle.ec20.proofs.Tests.{picked}
 use Rattle.moving.specs.Series.{Input, withX, scanWith, series}
 use Rattle.moving.proofs.Keeps.{exec-keeps, scan-keeps}
 use Rattle.moving.proofs.Spared.{Spared, spared-keeps}
 use Rattle.moving.proofs.Targets.{Marks, record-spares}
-
--- none of the n numbers from k on passes the test
-none-of : (p : ℕ → Bool) (k n : ℕ) → someFrom p k n ≡ false → (j : ℕ) → k ≤ j → j < k + n → p j ≡ false
-unfolding someFrom
-none-of p k zero e j a b = absurd (omega arith)
-none-of p k (suc n) e j a b =
-    let q = neither (p k) (someFrom p (suc k) n) e in
-    elim (ℕ-discrete k j) [
-      | yes z ↦ subst (λ (i : ℕ). p i ≡ false) z (q .0)
-      | no z ↦ none-of p (suc k) n (q .1) j (omega arith) (omega arith)
-    ]
 
 module _ (i : ℕ) where
   -- an instruction that does not write word i leaves it as it was
@@ -57,7 +45,7 @@ module _ (i : ℕ) where
       picked (Spared i) (ltb k (rs .count)) _ _
       (λ q.
       let l : k < rs .count = ltb-true _ _ q in
-      record-spares i (rs .at k) (none-of (λ j. recordHas (Marks i) (rs .at j)) 0 (rs .count) e k (omega arith) (omega arith)))
+      record-spares i (rs .at k) (none-at (λ j. recordHas (Marks i) (rs .at j)) 0 (rs .count) e k (omega arith) (omega arith)))
       (λ _. tt)
 
   if-keeps : (v : Device) (a : Verdict) (p : Program) → ((k : ℕ) → Spared i (p .code k)) → (e budget : ℕ) (c : Memory)

@@ -16,15 +16,12 @@ use Rattle.ec20.specs.Memory.{Memory}
 use Rattle.ec20.specs.Scan.{scanOf}
 use Rattle.ec20.specs.UseMap.{markedWritten, packedBy, mapOf, mapIf, mapFor, useMapOf}
 use Rattle.ec20.proofs.MovedLaws.{getD-from}
+use Rattle.ec20.proofs.Tests.{one-small}
 use Rattle.moving.proofs.Kept.{kept}
-
-bit : (b : Bool) → one-if b < 2
-bit true = omega arith
-bit false = omega arith
 
 module _ (test : ℕ → Bool) (a : ℕ) where
   small : (r : ℕ) → one-if (test (a + r)) < 2
-  small r = bit (test (a + r))
+  small r = one-small (test (a + r))
 
   -- bit r of eight that are packed
   packed-bit : (r : ℕ) → r < 8 → bitOf (packedBy test a 8) r ≡ one-if (test (a + r))

@@ -1,12 +1,14 @@
 -- A place is right exactly if it lies in the pool and each of its words is free. Assumes nothing.
 use Prim.Native.Nat.{ℕ, _+_, _-_, _≤_, _<_}
 use mathlib.Core.Bool.{Bool, true, false, not, _&&_}
-use mathlib.Core.Path.{_≡_, refl, sym, ap₂, _∙_}
+use mathlib.Core.Path.{_≡_, sym, ap, ap₂, _∙_}
 use native.Mathlib.Decide.{decLt}
 use native.Mathlib.Omega.{arith}
-use lib.Dec.{leb, ltb}
-use borrow.Author.Tests.{leb-true, ltb-true, le-leb, lt-ltb, not-true}
-use Rattle.ec20.proofs.Tests.{both, differ}
+use lib.Dec.{ltb}
+use borrow.Author.Tests.{ltb-true, lt-ltb, not-true}
+use Rattle.ec20.proofs.NoFault.{place-parts}
+use Rattle.ec20.proofs.Ranges.{within-yes, is-within, meets-yes, is-meets, common, inside-yes, is-inside}
+use Rattle.ec20.proofs.Tests.{both, differ, is-false}
 use Rattle.ec20.specs.Devices.{Device, within, meets, inside, meetsWork}
 use Rattle.ec20.specs.File.{Records}
 use Rattle.ec20.specs.Move.{Block, Pool, block, touches, isPlace}
@@ -15,19 +17,11 @@ use Rattle.ec20.specs.UseMap.{holds, someRecord}
 use Rattle.ec20.specs.declared.Judged.the-variants.{Fine}
 use Rattle.places.specs.Runs.{spare, Clear}
 use Rattle.places.proofs.Extents.{records-real}
-use Rattle.places.proofs.Used.{within-yes, is-within, meets-yes, is-meets, common, used-meets, meets-used}
+use Rattle.places.proofs.Used.{used-meets, meets-used}
 
 -- a test that cannot pass
 pub never : (b : Bool) → (b ≡ true → ⊥) → not b ≡ true
-never true f = absurd (f refl)
-never false f = refl
-
-four : (a b c d : Bool) → (a && b && c && d) ≡ true → (a ≡ true) × (b ≡ true) × (c ≡ true) × (d ≡ true)
-four a b c d e =
-    let x = both (a && b && c) d e in
-    let y = both (a && b) c (x .0) in
-    let z = both a b (y .0) in
-    (z .0, z .1, y .1, x .1)
+never b f = ap not (is-false b f)
 
 module _ (v : Device) (rs : Records) (b : Block) (l : Pool) (some : 0 < b .length) (order : l .start ≤ l .end) (in-D : l .end ≤ v .words) where
   abbrev n : ℕ
@@ -38,43 +32,40 @@ module _ (v : Device) (rs : Records) (b : Block) (l : Pool) (some : 0 < b .lengt
   In q = (l .start ≤ q) × (q + n ≤ l .end)
 
   is-in : (q : ℕ) → inside q n (l .start) (l .end - l .start) ≡ true → In q
-  unfolding inside
   is-in q e =
-      let h = both (leb (l .start) q) (leb (q + n) (l .start + (l .end - l .start))) e in
-      let u : q + n ≤ l .start + (l .end - l .start) = leb-true _ _ (h .1) in
-      (leb-true _ _ (h .0), omega arith)
+      let h = is-inside q n (l .start) (l .end - l .start) e in
+      let u : q + n ≤ l .start + (l .end - l .start) = h .1 in
+      (h .0, omega arith)
 
   in-yes : (q : ℕ) → In q → inside q n (l .start) (l .end - l .start) ≡ true
-  unfolding inside
   in-yes q h =
       let u : q + n ≤ l .end = h .1 in
-      let w : q + n ≤ l .start + (l .end - l .start) = omega arith in
-      ap₂ _&&_ (le-leb _ _ (h .0)) (le-leb _ _ w)
+      inside-yes q n (l .start) (l .end - l .start) (h .0) (omega arith)
 
   -- ---- a right place has free words
 
-  off-work : (q : ℕ) → In q → not (meetsWork v q n) ≡ true → (i : ℕ) → q ≤ i → i < q + n → ltb i (v .work) ≡ true
+  off-work : (q : ℕ) → In q → meetsWork v q n ≡ false → (i : ℕ) → q ≤ i → i < q + n → ltb i (v .work) ≡ true
   unfolding meetsWork
   off-work q h e i a z =
       let u : q + n ≤ l .end = h .1 in
       elim (decLt i (v .work)) [
         | yes g ↦ lt-ltb _ _ g
-        | no g ↦ differ (sym (meets-yes q n (v .work) (v .words - v .work) (omega arith) (omega arith)) ∙ not-true _ e)
+        | no g ↦ differ (sym (meets-yes q n (v .work) (v .words - v .work) (omega arith) (omega arith)) ∙ e)
       ]
 
-  off-block : (q : ℕ) → not (meets q n (b .start) n) ≡ true → (i : ℕ) → q ≤ i → i < q + n → not (within (b .start) n i) ≡ true
+  off-block : (q : ℕ) → meets q n (b .start) n ≡ false → (i : ℕ) → q ≤ i → i < q + n → not (within (b .start) n i) ≡ true
   off-block q e i a z =
       never (within (b .start) n i)
       (λ g. let w = is-within (b .start) n i g in let x : b .start ≤ i = w .0 in let y : i < b .start + n = w .1 in
-      differ (sym (meets-yes q n (b .start) n (omega arith) (omega arith)) ∙ not-true _ e))
+      differ (sym (meets-yes q n (b .start) n (omega arith) (omega arith)) ∙ e))
 
-  not-used : (q : ℕ) → not (someRecord (touches (block q n)) rs) ≡ true → (i : ℕ) → q ≤ i → i < q + n → not (someRecord (holds i) rs) ≡ true
-  not-used q e i a z = never (someRecord (holds i) rs) (λ g. differ (sym (used-meets q n rs i a z g) ∙ not-true _ e))
+  not-used : (q : ℕ) → someRecord (touches (block q n)) rs ≡ false → (i : ℕ) → q ≤ i → i < q + n → not (someRecord (holds i) rs) ≡ true
+  not-used q e i a z = never (someRecord (holds i) rs) (λ g. differ (sym (used-meets q n rs i a z g) ∙ e))
 
   pub right-clear : (q : ℕ) → isPlace v rs b l q ≡ true → In q × Clear (spare v rs b) q n
-  unfolding isPlace spare
+  unfolding spare
   right-clear q e =
-      let h = four (inside q n (l .start) (l .end - l .start)) (not (meets q n (b .start) n)) (not (meetsWork v q n)) (not (someRecord (touches (block q n)) rs)) e in
+      let h = place-parts v rs b l q e in
       let i = is-in q (h .0) in
       (i, λ j a z. ap₂ _&&_ (ap₂ _&&_ (off-work q i (h .2) j a z) (off-block q (h .1) j a z)) (not-used q (h .3) j a z))
 

@@ -6,6 +6,7 @@ use mathlib.Core.Path.{_≡_, refl, sym, ap, _∙_}
 use native.Mathlib.Decide.{ℕ-discrete}
 use native.Mathlib.Omega.{arith}
 use lib.Dec.{ltb}
+use Rattle.ec20.proofs.Tests.{is-false}
 use Rattle.ec20.specs.Basics.{pick, firstAt}
 use Rattle.ec20.specs.Devices.{Device, within}
 use Rattle.ec20.specs.File.{Records}
@@ -22,10 +23,6 @@ use Rattle.places.proofs.Clear.{right-clear, clear-right}
 
 -- ---- the first number that passes
 
-pub fails : (b : Bool) → (b ≡ true → ⊥) → b ≡ false
-fails true f = absurd (f refl)
-fails false f = refl
-
 module _ (test : ℕ → Bool) where
   first-is : (n k q : ℕ) → k ≤ q → q < k + n → test q ≡ true → ((p : ℕ) → k ≤ p → p < q → test p ≡ true → ⊥) → At q ≡ firstAt test n k
   unfolding firstAt
@@ -34,7 +31,7 @@ module _ (test : ℕ → Bool) where
       elim (ℕ-discrete k q) [
         | yes d ↦ let t : test k ≡ true = ap test d ∙ e in ap At (sym d) ∙ rw t refl
         | no d ↦
-            let t : test k ≡ false = fails (test k) (f k (omega arith) (omega arith)) in
+            let t : test k ≡ false = is-false (test k) (f k (omega arith) (omega arith)) in
             first-is n (k + 1) q (omega arith) (omega arith) e (λ p a. f p (omega arith)) ∙ rw t refl
       ]
 
@@ -42,7 +39,7 @@ module _ (test : ℕ → Bool) where
   unfolding firstAt
   first-none zero k f = refl
   first-none (suc n) k f =
-      let t : test k ≡ false = fails (test k) (f k (omega arith) (omega arith)) in
+      let t : test k ≡ false = is-false (test k) (f k (omega arith) (omega arith)) in
       first-none n (k + 1) (λ p a z. f p (omega arith) (omega arith)) ∙ rw t refl
 
 -- ---- two tests that agree below e find the same

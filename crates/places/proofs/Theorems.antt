@@ -7,7 +7,9 @@ use native.Mathlib.Omega.{arith}
 use lib.Dec.{ltb}
 use borrow.Author.Tests.{ltb-true, lt-ltb, not-true}
 use Rattle.bound.proofs.First.{First, first-at, no-first}
-use Rattle.ec20.proofs.Tests.{both, differ}
+use Rattle.ec20.proofs.Ranges.{within-yes, is-within}
+use Rattle.ec20.proofs.Some.{some-at, at-some}
+use Rattle.ec20.proofs.Tests.{both, differ, is-false}
 use Rattle.ec20.specs.Devices.{Device, within}
 use Rattle.ec20.specs.File.{Records}
 use Rattle.ec20.specs.Move.{Block, Pool, isPlace, placeOf}
@@ -16,12 +18,9 @@ use Rattle.ec20.specs.UseMap.{holds, recordHas, someRecord}
 use Rattle.ec20.specs.declared.Found.{Found}
 use Rattle.ec20.specs.declared.Found.the-variants.{At, Nowhere}
 use Rattle.ec20.specs.declared.Judged.the-variants.{Fine}
-use Rattle.marks.proofs.Some.{some-at, at-some}
 use Rattle.places.specs.Right.{Right}
 use Rattle.places.specs.Runs.{spare, Clear}
 use Rattle.places.proofs.Clear.{never, right-clear, clear-right}
-use Rattle.places.proofs.Found.{fails}
-use Rattle.places.proofs.Used.{within-yes, is-within}
 
 -- a program that is not refused by 2, 3 or 4, a block that is not empty, and a pool in D
 module _ (v : Device) (rs : Records) (b : Block) (l : Pool) (some : 0 < b .length) (order : l .start ≤ l .end) (in-D : l .end ≤ v .words) (fine : firstBad v rs ≡ Fine) where
@@ -40,7 +39,7 @@ module _ (v : Device) (rs : Records) (b : Block) (l : Pool) (some : 0 < b .lengt
         to = h .0 .1;
         off-work = λ i a z. ltb-true _ _ (parts i a z .0);
         off-block = λ i a z s. elim (decLt i (b .start + b .length)) [ yes g ↦ differ (sym (within-yes (b .start) (b .length) i s g) ∙ not-true _ (parts i a z .1)) | no g ↦ omega arith ];
-        unused = λ i a z k u. fails (recordHas (holds i) (rs .at k)) (λ g. differ (sym (at-some (λ j. recordHas (holds i) (rs .at j)) 0 (rs .count) k (omega arith) (omega arith) g) ∙ not-true _ (parts i a z .2)));
+        unused = λ i a z k u. is-false (recordHas (holds i) (rs .at k)) (λ g. differ (sym (at-some (λ j. recordHas (holds i) (rs .at j)) 0 (rs .count) k (omega arith) (omega arith) g) ∙ not-true _ (parts i a z .2)));
       }
 
   pub right-is : (q : ℕ) → Right v rs b l q → isPlace v rs b l q ≡ true

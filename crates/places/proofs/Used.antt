@@ -2,11 +2,10 @@
 use Prim.Native.Nat.{ℕ, _+_, _≤_, _<_}
 use mathlib.Core.Bool.{Bool, true, false, _&&_, _||_}
 use mathlib.Core.Path.{_≡_, ap₂}
-use native.Mathlib.Decide.{decLt}
 use native.Mathlib.Omega.{arith}
-use lib.Dec.{leb, ltb}
-use borrow.Author.Tests.{leb-true, ltb-true, le-leb, lt-ltb}
-use Rattle.ec20.proofs.Tests.{both}
+use Rattle.ec20.proofs.Ranges.{within-yes, is-within, meets-yes, common}
+use Rattle.ec20.proofs.Some.{some-at, at-some}
+use Rattle.ec20.proofs.Tests.{both, or-right, three, one-first, one-second}
 use Rattle.ec20.specs.Devices.{kindD, within, meets}
 use Rattle.ec20.specs.File.{Records}
 use Rattle.ec20.specs.Move.{block, touches}
@@ -17,34 +16,7 @@ use Rattle.ec20.specs.declared.Operand.{Operand}
 use Rattle.ec20.specs.declared.Place.{Place}
 use Rattle.ec20.specs.declared.Rec.{Rec}
 use Rattle.ec20.specs.declared.Row.{Row}
-use Rattle.marks.proofs.Some.{some-at, at-some, or-right, three, one-first, one-second}
 use Rattle.places.proofs.Extents.{Real}
-
--- ---- numbers in a row
-
-pub within-yes : (a n i : ℕ) → a ≤ i → i < a + n → within a n i ≡ true
-unfolding within
-within-yes a n i l u = ap₂ _&&_ (le-leb _ _ l) (lt-ltb _ _ u)
-
-pub is-within : (a n i : ℕ) → within a n i ≡ true → (a ≤ i) × (i < a + n)
-unfolding within
-is-within a n i e = let h = both (leb a i) (ltb i (a + n)) e in (leb-true _ _ (h .0), ltb-true _ _ (h .1))
-
-pub meets-yes : (a n b m : ℕ) → a < b + m → b < a + n → meets a n b m ≡ true
-unfolding meets
-meets-yes a n b m l u = ap₂ _&&_ (lt-ltb _ _ l) (lt-ltb _ _ u)
-
-pub is-meets : (a n b m : ℕ) → meets a n b m ≡ true → (a < b + m) × (b < a + n)
-unfolding meets
-is-meets a n b m e = let h = both (ltb a (b + m)) (ltb b (a + n)) e in (ltb-true _ _ (h .0), ltb-true _ _ (h .1))
-
--- rows that meet, neither of them empty, have a number in common
-pub common : (a n b m : ℕ) → 0 < n → 0 < m → meets a n b m ≡ true → (i : ℕ) × (a ≤ i) × (i < a + n) × (b ≤ i) × (i < b + m)
-common a n b m x y e =
-    let h = is-meets a n b m e in
-    let l : a < b + m = h .0 in
-    let u : b < a + n = h .1 in
-    elim (decLt a b) [ yes z ↦ (b, omega arith, omega arith, omega arith, omega arith) | no z ↦ (a, omega arith, omega arith, omega arith, omega arith) ]
 
 -- ---- an operand, the operands of a record, and records
 

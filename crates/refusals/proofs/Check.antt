@@ -9,8 +9,6 @@ use Rattle.ec20.specs.declared.Judged.{Judged}
 use Rattle.ec20.specs.declared.Judged.the-variants.{Fine, Fault}
 use Rattle.ec20.specs.declared.Verdict.{Verdict}
 use Rattle.ec20.specs.declared.Verdict.the-variants.{Refused}
-use Rattle.ec20.specs.declared.Walked.{Walked}
-use Rattle.ec20.specs.declared.Walked.the-variants.{Done, Bad}
 use Rattle.ec20.specs.Basics.{pick, then}
 use Rattle.ec20.specs.Devices.{Device, ec20}
 use Rattle.ec20.specs.File.{countOf, recordsOf, framed}
@@ -18,10 +16,11 @@ use Rattle.ec20.specs.Operands.{firstBad}
 use Rattle.ec20.specs.Code.{Program, programOf}
 use Rattle.ec20.specs.Control.{controlsOf}
 use Rattle.ec20.specs.Rung.{firstBroken}
-use Rattle.ec20.specs.Loops.{unsound, tooLong}
+use Rattle.ec20.specs.Loops.{unsound, stepsOf, tooLong}
 use Rattle.ec20.specs.Labels.{firstUnlabelled}
 use Rattle.ec20.specs.Check.{walked, judgeProgram, judgeFile, verdictOf, checkFor, checkOf}
 use Rattle.ec20.proofs.Tests.{picked}
+use Rattle.bound.proofs.Accepted.{sound-walk}
 use Rattle.refusals.specs.Frame.{no-records}
 use Rattle.refusals.specs.Rung.{Line5}
 use Rattle.refusals.specs.Structure.{Line6}
@@ -36,11 +35,6 @@ use Rattle.refusals.proofs.Rung.{judged-5}
 use Rattle.refusals.proofs.Structure.{judged-6}
 use Rattle.refusals.proofs.Labels.{judged-7}
 use Rattle.refusals.proofs.Steps.{long, not-long}
-
--- a walk that refuses nothing
-sound-walk : (x : Walked) → unsound x ≡ Fine → (m w : ℕ) × (x ≡ Done m w)
-sound-walk (Done m w) e = (m, w, refl)
-sound-walk (Bad k) e = let z : _≡_ {A = ℕ} 0 1 = cc in absurd (omega arith)
 
 module _ (v : Device) (f : List ℕ) where
   abbrev p : Program
@@ -72,7 +66,7 @@ module _ (v : Device) (f : List ℕ) where
 
   judged-labels : J6 ≡ Fine → Judges 7 (countOf f) (Line7 p) J7
   unfolding programOf
-  judged-labels e = let d = sound-walk (walked p) e in judged-7 p (d .0) (d .1) (d .2)
+  judged-labels e = let d = sound-walk (walked p) e in judged-7 p (d .0) (stepsOf (walked p)) (d .1)
 
   -- ---- the check answers as the table says
 

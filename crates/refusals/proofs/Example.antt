@@ -12,7 +12,7 @@ use Rattle.ec20.specs.Control.{controlsOf}
 use Rattle.ec20.specs.Labels.{opensOf}
 use Rattle.ec20.specs.Check.{checkFor}
 use Rattle.ec20.proofs.Computing.{computing}
-use Rattle.ec20.proofs.Files.{K, Y, SM, D, L, r0, r1, r2, file, alone}
+use Rattle.ec20.proofs.Files.{K, Y, SM, D, r0, r1, r2, NOP, LD, FOR, NEXT, CJ, LBL, END, file, alone}
 use Rattle.ec20.proofs.Tests.{differ}
 use Rattle.refusals.specs.First.{Never}
 use Rattle.refusals.specs.Frame.{Line1, under-8, edition, no-records, many-records, distance, past-start, comment}
@@ -25,27 +25,6 @@ use Rattle.refusals.specs.Steps.{Line8}
 use Rattle.refusals.specs.Table.{Told, accepted, recordAt, Not1, Not2-4, Not5, Not6, Not7, First2-4, First5, First6, First7}
 use Rattle.refusals.proofs.Check.{told, only, answer}
 use Rattle.refusals.proofs.Refused.{refused-1, refused-2, refused-3, refused-4, refused-5, refused-6, refused-7, refused-8}
-
-abbrev LD : List ℕ
-LD = r1 1 (SM 0)
-
-abbrev FOR : ℕ → List ℕ
-FOR n = r1 19 (K n)
-
-abbrev NOP : List ℕ
-NOP = r0 0
-
-abbrev NEXT : List ℕ
-NEXT = r0 20
-
-abbrev CJ : ℕ → List ℕ
-CJ l = r1 21 (L l)
-
-abbrev LBL : ℕ → List ℕ
-LBL l = r1 22 (L l)
-
-abbrev END : List ℕ
-END = r0 23
 
 -- ---- 1: seven bytes
 
@@ -77,7 +56,7 @@ table-2 = refused-2 ec20 file-2 1 .0 check-2
 -- ---- 3: INC of a constant, and NOP with an operand
 
 abbrev file-3 : List ℕ
-file-3 = file (LD ∷ r1 37 (K 0) ∷ r1 0 (K 0) ∷ END ∷ [])
+file-3 = file (LD (SM 0) ∷ r1 37 (K 0) ∷ r1 0 (K 0) ∷ END ∷ [])
 
 line-3 : Line3 ec20 (recordAt file-3 1)
 unfolding computing
@@ -117,10 +96,10 @@ below-4 : checkFor ec20 (alone (r2 48 (K 0) (D 7898))) ≡ Accepted 3 3
 unfolding computing
 below-4 = refl
 
--- ---- 5: LD, LD, OUT: the block stack is not empty
+-- ---- 5: LD (SM 0), LD (SM 0), OUT: the block stack is not empty
 
 abbrev file-5 : List ℕ
-file-5 = file (LD ∷ LD ∷ r1 12 (Y 0) ∷ END ∷ [])
+file-5 = file (LD (SM 0) ∷ LD (SM 0) ∷ r1 12 (Y 0) ∷ END ∷ [])
 
 line-5 : Line5 (programOf file-5) 2
 unfolding computing rungAt
@@ -166,7 +145,7 @@ table-7 : Not1 file-7 × Not2-4 ec20 file-7 × Not5 file-7 × Not6 file-7 × Fir
 table-7 = refused-7 ec20 file-7 1 .0 check-7
 
 abbrev file-7-cj : List ℕ
-file-7-cj = file (FOR 2 ∷ LD ∷ CJ 5 ∷ NEXT ∷ LBL 5 ∷ END ∷ [])
+file-7-cj = file (FOR 2 ∷ LD (SM 0) ∷ CJ 5 ∷ NEXT ∷ LBL 5 ∷ END ∷ [])
 
 -- the label's first LBL is record 4, in no loop; the CJ stands in the loop of record 0
 line-7-cj : Line7 (programOf file-7-cj) 2

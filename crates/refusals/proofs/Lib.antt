@@ -1,6 +1,8 @@
 -- The check answers as the table of refusals says. Read Check and Refused first; what they rest on stands before them.
--- A search for the first record; then each line as the check computes it and as the table says it: 1; 2, 3 and 4; 5; 6; 7; 8
+-- A search for the first record, a judgement by one line, the operands of a record; then each line as the check computes it and as the table says it: 1; 2, 3 and 4; 5; 6; 7; 8
 pub mod Search
+pub mod Tells
+pub mod Has
 pub mod Frame
 pub mod Operands
 pub mod Work

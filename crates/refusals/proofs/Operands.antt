@@ -11,7 +11,7 @@ use Rattle.ec20.specs.declared.Rec.{Rec}
 use Rattle.ec20.specs.Devices.{Device}
 use Rattle.ec20.specs.Operands.{isUnused, allowedBit, allowedWord, allowedOther, allowed, operandsOk}
 use Rattle.ec20.specs.Table.{rowOf, roleUnused}
-use Rattle.ec20.proofs.Tests.{both, differ}
+use Rattle.ec20.proofs.Tests.{both, each, differ}
 use Rattle.refusals.specs.Records.{Six-zeros, Operand-at, first, second, third, Wrong, not-allowed, not-zero, Line3, wrong}
 
 alone : (b : Bool) → (b || false || false || false || false) ≡ b
@@ -46,10 +46,6 @@ is-wrong v p o e =
 pub not-wrong : (v : Device) (p : Place) (o : Operand) → allowed v p o ≡ true → Wrong v p o → ⊥
 not-wrong v p o e (not-allowed q f) = differ (sym e ∙ f)
 not-wrong v p o e (not-zero q f) = f (zeros o (sym (unused-place v p o q) ∙ e))
-
--- each of three tests passes
-pub each : (a b c : Bool) → (a && b && c) ≡ true → (a ≡ true) × (b ≡ true) × (c ≡ true)
-each a b c e = let q = both (a && b) c e in let h = both a b (q .0) in (h .0, h .1, q .1)
 
 module _ (v : Device) (r : Rec) where
   abbrev One : Bool

@@ -5,7 +5,7 @@ use mathlib.Core.List.{List}
 use mathlib.Core.Path.{_≡_, sym, ap, _∙_}
 use native.Mathlib.Omega.{arith}
 use lib.Dec.{eqb}
-use Rattle.blocks.proofs.Rows.{is-within}
+use Rattle.ec20.proofs.Ranges.{is-within}
 use Rattle.ec20.proofs.Tests.{both}
 use Rattle.ec20.specs.Devices.{within}
 use Rattle.ec20.specs.File.{byteAt, u32At, operandAt}

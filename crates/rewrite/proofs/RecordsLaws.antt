@@ -6,7 +6,7 @@ use native.Mathlib.Decide.{decLt, decLe}
 use native.Mathlib.Omega.{arith}
 use lib.ListN.{length}
 use lib.Seq.{ext-getD}
-use Rattle.blocks.proofs.Rows.{within-yes, within-no}
+use Rattle.ec20.proofs.Ranges.{within-yes, within-no}
 use Rattle.ec20.proofs.MovedLaws.{length-from, comment-kept, trailer-kept, in-record}
 use Rattle.ec20.specs.Basics.{list}
 use Rattle.ec20.specs.File.{byteAt, u32At, operandAt}

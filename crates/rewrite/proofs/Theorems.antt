@@ -9,7 +9,7 @@ use native.Mathlib.Decide.{decLt}
 use native.Mathlib.Omega.{arith}
 use lib.ListN.{length}
 use borrow.Author.Tests.{eqb-true}
-use Rattle.blocks.proofs.Rows.{is-within}
+use Rattle.ec20.proofs.Ranges.{is-within}
 use Rattle.ec20.proofs.MovedLaws.{moved-at, comment-kept, trailer-kept, in-record}
 use Rattle.ec20.proofs.Tests.{both}
 use Rattle.ec20.specs.Devices.{kindD, within}

@@ -1,4 +1,5 @@
-use Rattle.engine.proofs.ScanLaws.{nine, fits, whole-program, not-broken}
+use Rattle.engine.proofs.ScanLaws.{nine, fits, whole-program}
+use Rattle.checker.proofs.Accepted.{not-broken}
 use Rattle.ec20.proofs.Tests.{both}
 use Rattle.records.specs.Ranges.{Fits}
 use borrow.Author.Tests.{leb-true}

@@ -1,4 +1,5 @@
-use Rattle.engine.proofs.ScanLaws.{unfit-scan, fit-scan, accepted-framed}
+use Rattle.engine.proofs.ScanLaws.{unfit-scan, fit-scan}
+use Rattle.checker.proofs.Accepted.{accepted-framed}
 use borrow.Author.Needs.{needs}
 use Rattle.engine.proofs.scan_file.Statement.{statement}
 use Rattle.engine.proofs.scan_file.Tie as tie
