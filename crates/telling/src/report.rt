@@ -1,7 +1,7 @@
 // What is printed: an answer or a refusal on standard output, and the reason on standard error.
+use crate::meanings;
 use crate::names;
 use crate::out;
-use crate::words;
 use ec20::Report;
 use libc::STDERR_FILENO;
 
@@ -43,7 +43,7 @@ fn head(word: usize, number: usize) {
 
 // The record, if one is told, with its instruction's name.
 fn place(file: &[u8], number: usize, record: usize) {
-    if words::tells_record(number) {
+    if meanings::tells_record(number) {
         out::say_to(STDERR_FILENO, b" at record ");
         out::number_to(STDERR_FILENO, record);
         names::say_name(STDERR_FILENO, file, record);
@@ -64,7 +64,7 @@ pub fn refused(word: usize, file: &[u8], number: usize, record: usize) {
     head(word, number);
     place(file, number, record);
     out::say_to(STDERR_FILENO, b": ");
-    words::meaning(STDERR_FILENO, number);
+    meanings::meaning(STDERR_FILENO, number);
     out::say_to(STDERR_FILENO, b"\n");
 }
 
@@ -73,7 +73,7 @@ pub fn refused_exchange(word: usize, number: usize, record: usize) {
     answer(number, record);
     head(word, number);
     out::say_to(STDERR_FILENO, b": ");
-    words::meaning_exchange(STDERR_FILENO, number);
+    meanings::meaning_exchange(STDERR_FILENO, number);
     out::say_to(STDERR_FILENO, b"\n");
 }
 

@@ -1,4 +1,5 @@
 // What a trial prints: the move, a line for a scan, how far it is, the sum of it.
+use crate::entries;
 use crate::side;
 use crate::side::Answer;
 use crate::side::Turn;
@@ -38,14 +39,17 @@ fn answer(a: Answer) {
     out::number(a.at);
 }
 
-// The new program's answer, and where the memories differ.
+// What differs: the new program's answer, where it is another, and the first entry at which the memories are not the same, as the old
+// program numbers it.
 fn differs(t: Turn) {
-    out::say(b" differs: new");
-    let new = t.new;
-    answer(new);
+    out::say(b" differs");
+    if !side::same_answer(t.old, t.new) {
+        out::say(b", new");
+        answer(t.new);
+    }
     if t.apart < 16890 {
-        out::say(b", memory from byte ");
-        out::number(t.apart);
+        out::say(b", memory first at ");
+        entries::say_at(t.apart);
     }
     out::say(b"\n");
 }
@@ -77,8 +81,8 @@ fn far(k: u32, n: u32) {
     out::say_to(STDERR_FILENO, b" scans\n");
 }
 
-// How far the trial is, on standard error, about once a second. No clock is asked: what is counted is steps, and 30,000 for a scan itself.
-// work: what was counted since it was told. Answers what it is after scan k.
+// How far the trial is, on standard error, each time that 50,000,000 more were counted. No clock is asked: what is counted is the old program's
+// steps, and 30,000 for a scan itself. work: what was counted since it was told. Answers what it is after scan k.
 pub fn progress(work: usize, k: u32, n: u32, t: Turn) -> usize {
     let old = t.old;
     let more = std::num::wrapping_add_usize(work, std::num::wrapping_add_usize(old.steps, 30000));
@@ -89,13 +93,24 @@ pub fn progress(work: usize, k: u32, n: u32, t: Turn) -> usize {
     0
 }
 
-pub fn total(n: u32, differ: u32) {
-    io::print_decimal(STDOUT_FILENO, n as u64);
-    if differ == 0 {
-        out::say(b" scans, all alike\n");
+fn scans(n: u32) {
+    out::number(n as usize);
+    if n == 1 {
+        out::say(b" scan, ");
     } else {
-        out::say(b" scans, of which differ ");
-        io::print_decimal(STDOUT_FILENO, differ as u64);
-        out::say(b"\n");
+        out::say(b" scans, ");
+    }
+}
+
+// The last line. By its last word the script tells whether a scan differed.
+pub fn total(n: u32, differ: u32) {
+    scans(n);
+    match differ {
+        0 => out::say(b"all alike\n"),
+        1 => out::say(b"1 differs\n"),
+        _ => {
+            out::number(differ as usize);
+            out::say(b" differ\n");
+        }
     }
 }

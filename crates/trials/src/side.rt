@@ -47,7 +47,7 @@ fn told(s: Scanned) -> Answer {
     }
 }
 
-fn same_answer(a: Answer, b: Answer) -> bool {
+pub fn same_answer(a: Answer, b: Answer) -> bool {
     (a.kind == b.kind)
         & (a.steps == b.steps)
         & (a.stop == b.stop)
