@@ -1,7 +1,7 @@
 // check FILE: the checker's verdict on a program file.
-use crate::files;
-use crate::report;
+use calls::files;
 use ec20::Verdict;
+use telling::report;
 
 fn judge(file: &[u8]) {
     match checker::check(file) {

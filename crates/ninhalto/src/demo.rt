@@ -1,14 +1,14 @@
 // demo FILE MEMORY: the story of the mixer, whose program and memory are in examples/. Two routines share a block; the block as it is
 // declared is one word short; the move of it is refused, the move of the true block goes through and is tried out.
-use crate::files;
-use crate::map;
-use crate::names;
-use crate::report;
-use crate::shown;
-use crate::trial;
-use crate::trial::Asked;
+use calls::files;
 use ec20::Moved;
 use libc::STDOUT_FILENO;
+use telling::names;
+use telling::out;
+use telling::report;
+use telling::runs;
+use trials::trial;
+use trials::trial::Asked;
 
 // The block as it is declared, D100-D105, and as it is, D100-D106; the pool D300-D399; the scans of the trial.
 fn asked(length: u32) -> Asked {
@@ -22,17 +22,17 @@ fn asked(length: u32) -> Asked {
 }
 
 fn story() {
-    shown::say(b"The mixer: examples/mixer.ec20, with a listing in examples/mixer.txt.\n");
-    shown::say(
+    out::say(b"The mixer: examples/mixer.ec20, with a listing in examples/mixer.txt.\n");
+    out::say(
         b"Two routines share a block of D words. While the mixer fills (X0 on), the recipe routine\n",
     );
-    shown::say(
+    out::say(
         b"keeps six 16-bit words there. While it empties (X1 on), the totals routine keeps 32-bit\n",
     );
-    shown::say(
+    out::say(
         b"pairs in the same words. The block is declared as D100-D105 and is to have a place of its\n",
     );
-    shown::say(b"own among D300-D399.\n");
+    out::say(b"own among D300-D399.\n");
 }
 
 fn tell_map(file: &[u8]) -> bool {
@@ -44,45 +44,45 @@ fn tell_map(file: &[u8]) -> bool {
     let read = m.read;
     let written = m.written;
     story();
-    shown::say(b"\n1. The words that the program uses:\n");
-    map::runs(&read, &written);
+    out::say(b"\n1. The words that the program uses:\n");
+    runs::show(&read, &written);
     true
 }
 
 fn tell_refusal(file: &[u8], number: usize, record: usize) {
-    shown::say(b"   refused by ");
-    shown::number(number);
-    shown::say(b": record ");
-    shown::number(record);
+    out::say(b"   refused by ");
+    out::number(number);
+    out::say(b": record ");
+    out::number(record);
     names::say_name(STDOUT_FILENO, file, record);
-    shown::say(b" reaches over the edge of the block.\n");
-    shown::say(b"   A move would tear its words apart: some would go and some would stay.\n");
+    out::say(b" reaches over the edge of the block.\n");
+    out::say(b"   A move would tear its words apart: some would go and some would stay.\n");
 }
 
 // The block as it is declared. The file is not changed where the move is refused.
 fn tell_declared(file: &mut [u8]) {
     let a = asked(6);
-    shown::say(b"\n2. The move of the declared block, D100-D105:\n");
+    out::say(b"\n2. The move of the declared block, D100-D105:\n");
     match mover::move_block(file, a.start, a.length, a.pool_start, a.pool_end) {
         Moved::Refused { number, record } => tell_refusal(file, number, record),
-        Moved::To { place: _ } => shown::say(b"   it goes through\n"),
+        Moved::To { place: _ } => out::say(b"   it goes through\n"),
     }
 }
 
 fn tell_true(old: &[u8], new: &mut [u8], memory: &[u8; 65536], size: usize) {
-    shown::say(
+    out::say(
         b"\n3. The move of the true block, D100-D106, and both programs side by side. Before each scan\n",
     );
-    shown::say(
+    out::say(
         b"   all inputs X are drawn anew; a scan has 1 unit of 100 ms and at most 1,000,000 steps.\n",
     );
-    shown::say(
+    out::say(
         b"   Told are the steps, the record stopped at, and the first error with its record (1 is\n",
     );
-    shown::say(
+    out::say(
         b"   a division by zero). Alike: both programs answer the same and, with block and place\n",
     );
-    shown::say(b"   exchanged, leave the same memory.\n");
+    out::say(b"   exchanged, leave the same memory.\n");
     trial::run_loaded(old, new, memory, size, asked(7), 2, 3);
 }
 
@@ -115,7 +115,7 @@ pub fn run() {
     let n = program.n;
     let loaded = files::load_word(3, b"MEMORY", &mut memory);
     if loaded.whole {
-        trial::copy(&old, &mut new);
+        files::copy(&old, &mut new);
         tell_buffer(&old[..n], &mut new, n, &memory, loaded.n);
     }
 }

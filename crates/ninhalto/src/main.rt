@@ -3,21 +3,13 @@
 mod check;
 mod demo;
 mod exchanges;
-mod files;
 mod map;
 mod moves;
-mod names;
-mod numbers;
-mod picture;
-mod ranges;
-mod report;
 mod scan;
-mod shown;
-mod side;
-mod tables;
-mod text;
 mod trial;
-mod words;
+
+use calls::text;
+use telling::report;
 
 // Whether the word after the command is --picture.
 fn is_pictured() -> bool {

@@ -1,10 +1,10 @@
 // move FILE START LENGTH POOLSTART POOLEND: a block of D words renamed to the lowest place in the pool. The program file is replaced.
-use crate::files;
-use crate::numbers;
-use crate::numbers::Number;
-use crate::ranges;
-use crate::report;
+use calls::files;
+use calls::numbers;
+use calls::numbers::Number;
 use ec20::Moved;
+use telling::ranges;
+use telling::report;
 
 struct Asked {
     start: u32,

@@ -1,77 +1,12 @@
 // scan FILE MEMORY ELAPSED [BUDGET]: a scan of a program file over a memory file, which is replaced by the memory after it.
-ghost use Prim.Native.Nat.{_≤_};
-use crate::files;
-use crate::numbers;
-use crate::numbers::Number;
-use crate::report;
-use crate::tables;
+use calls::files;
+use calls::numbers;
+use calls::numbers::Number;
 use ec20::Scanned;
-
-// budget is not looked at where the call is plain, that is, has none.
-pub struct Asked {
-    pub elapsed: u32,
-    pub budget: u32,
-    pub plain: bool,
-}
-
-fn call(
-    f: &[u8],
-    a: Asked,
-    x: &[u8],
-    y: &mut [u8],
-    m: &mut [u8],
-    sm: &mut [u8],
-    t: &mut [u8],
-    d: &mut [i16],
-    tv: &mut [i16],
-) -> Scanned {
-    if a.plain {
-        return engine::scan_unbudgeted(f, x, y, m, sm, t, d, tv, a.elapsed);
-    }
-    engine::scan_file(f, x, y, m, sm, t, d, tv, a.elapsed, a.budget)
-}
-
-// A memory file of another size is lent as an X table with no entry, which is refused by 9 where nothing ahead of it holds.
-fn entries(size: usize) -> usize
-    ensures { λ r. ⌜ r ≤ 32 ⌝ }
-{
-    if size == 16890 { 32 } else { 0 }
-}
-
-// The scan over the memory of the image, which is then the one after it.
-pub fn scan(f: &[u8], a: Asked, image: &mut [u8; 16890], size: usize) -> Scanned {
-    let mut x = tables::bits();
-    let mut y = tables::bits();
-    let mut m = tables::m_bits();
-    let mut sm = tables::bits();
-    let mut t = tables::bits();
-    let mut d = tables::d_words();
-    let mut tv = tables::t_values();
-    image::split(
-        image,
-        &mut x,
-        &mut y,
-        &mut m,
-        &mut sm,
-        &mut t,
-        &mut d,
-        &mut tv,
-    );
-    let n = entries(size);
-    let s = call(
-        f,
-        a,
-        &x[..n],
-        &mut y,
-        &mut m,
-        &mut sm,
-        &mut t,
-        &mut d,
-        &mut tv,
-    );
-    image::join(&x, &y, &m, &sm, &t, &d, &tv, image);
-    s
-}
+use memories::scans;
+use memories::scans::Asked;
+use memories::tables;
+use telling::report;
 
 // The answer is told once the memory file is replaced. 1 to 8 are told of the program file, 9 of the call.
 fn tell(f: &[u8], s: Scanned, image: &[u8; 16890]) {
@@ -100,7 +35,7 @@ fn tell(f: &[u8], s: Scanned, image: &[u8; 16890]) {
 fn run_loaded(f: &[u8], memory: &[u8; 65536], size: usize, a: Asked) {
     let mut image = tables::image();
     tables::start(memory, &mut image);
-    let s = scan(f, a, &mut image, size);
+    let s = scans::scan(f, a, &mut image, size);
     tell(f, s, &image);
 }
 
