@@ -17,19 +17,20 @@ static double timed_check(int s, long n) {
 
 static void measure(const char *path) {
     uint64_t answer[4], other[4];
-    double best[3];
+    timed *const part[1] = {timed_check};
+    double best[1][3];
     const char *name = load(path);
     c_check(file, size, answer);
     for (int s = 1; s < SIDES; s++) {
         checks[s](file, size, other);
         if (memcmp(answer, other, sizeof answer)) differ(name, s);
     }
-    take_turns(timed_check, ROUNDS, best);
+    take_turns(1, part, ROUNDS, best);
     if (answer[0])
         printf("%-10s  refused by %llu at record %llu", name, (unsigned long long)answer[0], (unsigned long long)answer[1]);
     else
         printf("%-10s  accepted, W %llu", name, (unsigned long long)answer[3]);
-    tell(best);
+    tell(best[0]);
 }
 
 static void agree_case(FILE *in, uint32_t i) {

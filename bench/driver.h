@@ -67,19 +67,31 @@ static inline double now(void) {
 /* Nanoseconds of n calls of side s. */
 typedef double timed(int s, long n);
 
-/* The sides take turns, with as many calls a round as take five milliseconds of C. The best time of one call of each side is told.
-   The reference may be slow: it has a turn in every fourth round, with fewer calls. */
-static inline void take_turns(timed *f, int rounds, double best[3]) {
+/* So many calls that C takes five milliseconds. */
+static inline long enough(timed *f) {
     long n = 1;
     while (f(0, n) < 5e6) n *= 2;
-    best[0] = best[1] = best[2] = 1e18;
+    return n;
+}
+
+/* What is to be timed, and the sides with it, take turns, so that all see the same machine; of each the best time of one call is told.
+   The reference may be slow: it has a turn in every fourth round, with fewer calls. */
+enum { MOST_PARTS = 3 };
+
+static inline void take_turns(int parts, timed *const f[], int rounds, double best[][3]) {
+    long n[MOST_PARTS];
+    for (int p = 0; p < parts; p++) {
+        n[p] = enough(f[p]);
+        best[p][0] = best[p][1] = best[p][2] = 1e18;
+    }
     for (int round = 0; round < rounds; round++)
-        for (int s = 0; s < SIDES; s++) {
-            if (s == 2 && round % 4) continue;
-            long calls = s == 2 ? n / 4 + 1 : n;
-            double t = f(s, calls) / calls;
-            if (t < best[s]) best[s] = t;
-        }
+        for (int p = 0; p < parts; p++)
+            for (int s = 0; s < SIDES; s++) {
+                if (s == 2 && round % 4) continue;
+                long calls = s == 2 ? n[p] / 4 + 1 : n[p];
+                double t = f[p](s, calls) / calls;
+                if (t < best[p][s]) best[p][s] = t;
+            }
 }
 
 /* The end of each line: the nanoseconds of each side, the ratio to the reference, the ratio to C. */

@@ -59,15 +59,15 @@ static void agreed(const char *name) {
 }
 
 static void measure(const char *path) {
-    double best[3];
+    timed *const parts[2] = {timed_map, timed_move};
+    double best[2][3];
     const char *name = load(path);
     agreed(name);
-    take_turns(timed_map, ROUNDS, best);
+    take_turns(2, parts, ROUNDS, best);
     printf("map-%-11s", name);
-    tell(best);
-    take_turns(timed_move, ROUNDS, best);
+    tell(best[0]);
     printf("move-%-10s", name);
-    tell(best);
+    tell(best[1]);
 }
 
 /* One case: each side gives the answer told there, and makes the changes named there and no other. */

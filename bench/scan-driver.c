@@ -91,24 +91,26 @@ static double timed_check(int s, long n) {
 }
 
 static void measure(const char *path) {
-    double best[3];
+    timed *const part[1] = {timed_scan};
+    double best[1][3];
     const char *name = load(path);
     size_t steps = all_agreed(name);
-    take_turns(timed_scan, ROUNDS, best);
-    for (int s = 0; s < SIDES; s++) best[s] /= steps;
+    take_turns(1, part, ROUNDS, best);
+    for (int s = 0; s < SIDES; s++) best[0][s] /= steps;
     printf("%-14s  steps %8zu  a step", name, steps);
-    tell(best);
+    tell(best[0]);
 }
 
 static void measure_growth(const char *path) {
-    double check[3], ready[3], whole[3];
+    enum { CHECK, READY, WHOLE, PARTS };
+    timed *const parts[PARTS] = {timed_check, timed_ready, timed_whole};
+    double best[PARTS][3];
     const char *name = load(path);
     size_t steps = all_agreed(name);
-    take_turns(timed_check, GROWTH_ROUNDS, check);
-    take_turns(timed_ready, GROWTH_ROUNDS, ready);
-    take_turns(timed_whole, GROWTH_ROUNDS, whole);
-    printf("%-14s  steps %8zu  check %.0f and %.0f ns  ready %.0f and %.0f ns  whole", name, steps, check[0], check[1], ready[0], ready[1]);
-    tell(whole);
+    take_turns(PARTS, parts, GROWTH_ROUNDS, best);
+    printf("%-14s  steps %8zu  check %.0f and %.0f ns  ready %.0f and %.0f ns  whole", name, steps, best[CHECK][0], best[CHECK][1], best[READY][0],
+           best[READY][1]);
+    tell(best[WHOLE]);
 }
 
 int main(int words, char **word) {
