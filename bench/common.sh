@@ -50,10 +50,12 @@ else
     note "cargo does not build for $target, so the reference is left out; $out/cargo.log says why"
 fi
 
+# The library stands first, whole: so the place of its code, on which its speed hangs (docs/BENCHMARKS.md), is the same in all drivers, and does not
+# change with their length.
 compile() {
     made=$1
     shift
-    "$cc" -O2 -Wall $defined -o "$out/$made" $static "$@" target/staticlib/libhost.a $reference || exit 1
+    "$cc" -O2 -Wall $defined -o "$out/$made" $static -Wl,--whole-archive target/staticlib/libhost.a -Wl,--no-whole-archive "$@" $reference || exit 1
 }
 
 run() { ${emulator:+"$emulator"} "$@"; }
