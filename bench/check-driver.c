@@ -15,22 +15,27 @@ static double timed_check(int s, long n) {
     return now() - from;
 }
 
-static void measure(const char *path) {
-    uint64_t answer[4], other[4];
-    timed *const part[1] = {timed_check};
-    double best[1][3];
-    const char *name = load(path);
+static void agreed(const char *name, uint64_t answer[4]) {
+    uint64_t other[4];
     c_check(file, size, answer);
     for (int s = 1; s < SIDES; s++) {
         checks[s](file, size, other);
-        if (memcmp(answer, other, sizeof answer)) differ(name, s);
+        if (memcmp(answer, other, sizeof other)) differ(name, s);
     }
-    take_turns(1, part, ROUNDS, best);
-    if (answer[0])
-        printf("%-10s  refused by %llu at record %llu", name, (unsigned long long)answer[0], (unsigned long long)answer[1]);
-    else
-        printf("%-10s  accepted, W %llu", name, (unsigned long long)answer[3]);
-    tell(best[0]);
+}
+
+static void measure(int files, char **path) {
+    static uint64_t answer[MOST_FILES][4];
+    timed *const part[1] = {timed_check};
+    for (int i = 0; i < files; i++) agreed(load(path[i])->name, answer[i]);
+    take_turns(1, part, ROUNDS);
+    for (int i = 0; i < files; i++) {
+        if (answer[i][0])
+            printf("%-10s  refused by %llu at record %llu", subjects[i].name, (unsigned long long)answer[i][0], (unsigned long long)answer[i][1]);
+        else
+            printf("%-10s  accepted, W %llu", subjects[i].name, (unsigned long long)answer[i][3]);
+        tell(subjects[i].best[0]);
+    }
 }
 
 static void agree_case(FILE *in, uint32_t i) {
@@ -49,6 +54,6 @@ int main(int words, char **word) {
     if (words == 3 && !strcmp(word[1], "--agree"))
         all_cases(word[2], agree_case, "checks");
     else
-        for (int i = 1; i < words; i++) measure(word[i]);
+        measure(words - 1, word + 1);
     return 0;
 }

@@ -50,12 +50,13 @@ else
     note "cargo does not build for $target, so the reference is left out; $out/cargo.log says why"
 fi
 
-# The library stands first, whole: so the place of its code, on which its speed hangs (docs/BENCHMARKS.md), is the same in all drivers, and does not
-# change with their length.
+# The speed of short loops hangs on the place of the code (docs/BENCHMARKS.md). So the library stands first, whole, and main not ahead of it; and
+# run-check and run-move, which search in short loops, set `aligned` to give those of C the best place. Then no place hangs on a driver's length.
 compile() {
     made=$1
     shift
-    "$cc" -O2 -Wall $defined -o "$out/$made" $static -Wl,--whole-archive target/staticlib/libhost.a -Wl,--no-whole-archive "$@" $reference || exit 1
+    "$cc" -O2 -Wall -fno-reorder-functions ${aligned-} $defined -o "$out/$made" $static \
+        -Wl,--whole-archive target/staticlib/libhost.a -Wl,--no-whole-archive "$@" $reference || exit 1
 }
 
 run() { ${emulator:+"$emulator"} "$@"; }

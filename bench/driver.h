@@ -32,11 +32,27 @@ static inline void proved_check(const uint8_t *file, size_t size, uint64_t out[4
 
 static check *const checks[3] = {c_check, proved_check, IF_REFERENCE(reference_check)};
 
-/* ---- the file */
+/* ---- the files */
 
-enum { LONGEST = 65536 };
-static uint8_t file[LONGEST];
+enum { LONGEST = 65536, MOST_FILES = 16, MOST_PARTS = 3 };
+
+/* A file that is timed: its name without folders, its bytes, and the best time of each part and side. */
+static struct subject {
+    const char *name;
+    uint8_t bytes[LONGEST];
+    size_t size, steps;
+    double best[MOST_PARTS][3];
+} subjects[MOST_FILES];
+static int loaded;
+
+/* The file that all sides run on. */
+static uint8_t *file = subjects[0].bytes;
 static size_t size;
+
+static inline void choose(int i) {
+    file = subjects[i].bytes;
+    size = subjects[i].size;
+}
 
 static inline FILE *opened(const char *path) {
     FILE *in = fopen(path, "rb");
@@ -47,12 +63,19 @@ static inline FILE *opened(const char *path) {
     return in;
 }
 
-/* Reads the file. Gives its name without folders. */
-static inline const char *load(const char *path) {
+/* Reads one file more, and chooses it. */
+static inline struct subject *load(const char *path) {
+    if (loaded == MOST_FILES) {
+        fprintf(stderr, "%s: one file too many\n", path);
+        exit(1);
+    }
+    struct subject *f = &subjects[loaded];
     FILE *in = opened(path);
-    size = fread(file, 1, LONGEST, in);
+    f->name = strrchr(path, '/') ? strrchr(path, '/') + 1 : path;
+    f->size = fread(f->bytes, 1, LONGEST, in);
     fclose(in);
-    return strrchr(path, '/') ? strrchr(path, '/') + 1 : path;
+    choose(loaded++);
+    return f;
 }
 
 /* ---- the clock and the turns */
@@ -74,23 +97,21 @@ static inline long enough(timed *f) {
     return n;
 }
 
-/* What is to be timed, and the sides with it, take turns, so that all see the same machine; of each the best time of one call is told.
+/* Files, what is timed of each, and sides take turns, so that all see the same machine; of each the best time of one call is kept.
    The reference may be slow: it has a turn in every fourth round, with fewer calls. */
-enum { MOST_PARTS = 3 };
-
-static inline void take_turns(int parts, timed *const f[], int rounds, double best[][3]) {
-    long n[MOST_PARTS];
-    for (int p = 0; p < parts; p++) {
-        n[p] = enough(f[p]);
-        best[p][0] = best[p][1] = best[p][2] = 1e18;
-    }
+static inline void take_turns(int parts, timed *const f[], int rounds) {
+    static long n[MOST_FILES][MOST_PARTS];
     for (int round = 0; round < rounds; round++)
-        for (int p = 0; p < parts; p++)
-            for (int s = 0; s < SIDES; s++) {
-                if (s == 2 && round % 4) continue;
-                long calls = s == 2 ? n[p] / 4 + 1 : n[p];
-                double t = f[p](s, calls) / calls;
-                if (t < best[p][s]) best[p][s] = t;
+        for (int i = 0; i < loaded; i++)
+            for (int p = 0; p < parts; p++) {
+                choose(i);
+                if (round == 0) n[i][p] = enough(f[p]);
+                for (int s = 0; s < SIDES; s++) {
+                    if (s == 2 && round % 4) continue;
+                    long calls = s == 2 ? n[i][p] / 4 + 1 : n[i][p];
+                    double t = f[p](s, calls) / calls, *best = &subjects[i].best[p][s];
+                    if (round == 0 || t < *best) *best = t;
+                }
             }
 }
 

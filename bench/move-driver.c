@@ -58,16 +58,16 @@ static void agreed(const char *name) {
     }
 }
 
-static void measure(const char *path) {
+static void measure(int files, char **path) {
     timed *const parts[2] = {timed_map, timed_move};
-    double best[2][3];
-    const char *name = load(path);
-    agreed(name);
-    take_turns(2, parts, ROUNDS, best);
-    printf("map-%-11s", name);
-    tell(best[0]);
-    printf("move-%-10s", name);
-    tell(best[1]);
+    for (int i = 0; i < files; i++) agreed(load(path[i])->name);
+    take_turns(2, parts, ROUNDS);
+    for (int i = 0; i < files; i++) {
+        printf("map-%-11s", subjects[i].name);
+        tell(subjects[i].best[0]);
+        printf("move-%-10s", subjects[i].name);
+        tell(subjects[i].best[1]);
+    }
 }
 
 /* One case: each side gives the answer told there, and makes the changes named there and no other. */
@@ -96,6 +96,6 @@ int main(int words, char **word) {
     if (words == 3 && !strcmp(word[1], "--agree"))
         all_cases(word[2], agree_case, "moves");
     else
-        for (int i = 1; i < words; i++) measure(word[i]);
+        measure(words - 1, word + 1);
     return 0;
 }

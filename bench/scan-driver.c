@@ -90,35 +90,43 @@ static double timed_check(int s, long n) {
     return now() - from;
 }
 
-static void measure(const char *path) {
-    timed *const part[1] = {timed_scan};
-    double best[1][3];
-    const char *name = load(path);
-    size_t steps = all_agreed(name);
-    take_turns(1, part, ROUNDS, best);
-    for (int s = 0; s < SIDES; s++) best[0][s] /= steps;
-    printf("%-14s  steps %8zu  a step", name, steps);
-    tell(best[0]);
+static void load_all(int files, char **path) {
+    loaded = 0;
+    for (int i = 0; i < files; i++) {
+        struct subject *f = load(path[i]);
+        f->steps = all_agreed(f->name);
+    }
 }
 
-static void measure_growth(const char *path) {
+static void measure(int files, char **path) {
+    timed *const part[1] = {timed_scan};
+    load_all(files, path);
+    take_turns(1, part, ROUNDS);
+    for (int i = 0; i < files; i++) {
+        struct subject *f = &subjects[i];
+        for (int s = 0; s < SIDES; s++) f->best[0][s] /= f->steps;
+        printf("%-14s  steps %8zu  a step", f->name, f->steps);
+        tell(f->best[0]);
+    }
+}
+
+static void measure_growth(int files, char **path) {
     enum { CHECK, READY, WHOLE, PARTS };
     timed *const parts[PARTS] = {timed_check, timed_ready, timed_whole};
-    double best[PARTS][3];
-    const char *name = load(path);
-    size_t steps = all_agreed(name);
-    take_turns(PARTS, parts, GROWTH_ROUNDS, best);
-    printf("%-14s  steps %8zu  check %.0f and %.0f ns  ready %.0f and %.0f ns  whole", name, steps, best[CHECK][0], best[CHECK][1], best[READY][0],
-           best[READY][1]);
-    tell(best[WHOLE]);
+    load_all(files, path);
+    take_turns(PARTS, parts, GROWTH_ROUNDS);
+    for (int i = 0; i < files; i++) {
+        struct subject *f = &subjects[i];
+        printf("%-14s  steps %8zu  check %.0f and %.0f ns  ready %.0f and %.0f ns  whole", f->name, f->steps, f->best[CHECK][0], f->best[CHECK][1],
+               f->best[READY][0], f->best[READY][1]);
+        tell(f->best[WHOLE]);
+    }
 }
 
 int main(int words, char **word) {
-    void (*one)(const char *path) = measure;
-    for (int i = 1; i < words; i++)
-        if (!strcmp(word[i], "--growth"))
-            one = measure_growth;
-        else
-            one(word[i]);
+    int plain = 1;
+    while (plain < words && strcmp(word[plain], "--growth")) plain++;
+    measure(plain - 1, word + 1);
+    if (plain < words) measure_growth(words - plain - 1, word + plain + 1);
     return 0;
 }
