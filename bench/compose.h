@@ -40,6 +40,16 @@ static void put3(int number, int kind, uint32_t value, int kind2, uint32_t value
     with(2, kind3, 0, value3);
 }
 
+/* Rungs of a contact and a coil, then END: n records in all. */
+static void fill(int n) {
+    while (count + 2 < n) {
+        put1(LD, X, 0);
+        put1(OUT, Y, 0);
+    }
+    while (count + 1 < n) put(NOP);
+    put(END);
+}
+
 static void write_file(const char *folder, const char *name) {
     char path[4096];
     uint32_t distance = 20 * count + 8;
@@ -53,4 +63,11 @@ static void write_file(const char *folder, const char *name) {
         exit(1);
     }
     count = 0;
+}
+
+/* The same under the name and a number: plain-100. */
+static void write_numbered(const char *folder, const char *name, int n) {
+    char numbered[64];
+    snprintf(numbered, sizeof numbered, "%s-%d", name, n);
+    write_file(folder, numbered);
 }

@@ -1,4 +1,4 @@
-/* Writes the program files that the checks are timed on, each by its name, into the folder that it is given. */
+/* Writes the program files that checks, maps and moves are timed on, each by its name, into the folder that it is given. */
 #include "compose.h"
 
 /* Twenty-five records of an ordinary program: coils with a hold, a branch, a timer, a block in parallel, words of both widths, a compare. */
@@ -51,15 +51,25 @@ static void loop(int i) {
     put(NEXT);
 }
 
-/* 76 times the rungs, six loops, three more: 2,000 records. */
-static void plain(void) {
-    for (int i = 0; i < 76; i++) {
+/* The rungs again and again, a loop after each twelve; where there is room for it, a loop more: n records. Of 2,000, 76 times the rungs and six
+   loops. */
+static void plain(int n) {
+    int i = 0;
+    for (; count + 25 < n; i++) {
         rungs(i);
         if (i % 12 == 11) loop(i / 12);
     }
-    put1(LD, X, 0);
-    put1(OUT, Y, 0);
-    put(NOP);
+    if (count + 16 < n) loop(i / 12);
+    fill(n);
+}
+
+/* Pairs of LD and CJ, all to the one LBL ahead of END: n records, an even number. It is what the proved check has most to do with. */
+static void jumps(int n) {
+    while (count + 2 < n) {
+        put1(LD, SM, 0);
+        put1(CJ, LABEL, 0);
+    }
+    put1(LBL, LABEL, 0);
     put(END);
 }
 
@@ -86,20 +96,40 @@ static void deep(void) {
     put(END);
 }
 
+enum { GAP = 7200, GAP_WORDS = 12 };
+
+/* An LD, then 32-bit sums, each over six D words of its own, then END: n records. Words GAP on, as many as GAP_WORDS, stay free. */
+static void dense(int n) {
+    put1(LD, SM, 0);
+    for (uint32_t w = 0; count < n - 1; w += 6) {
+        if (w >= GAP && w < GAP + GAP_WORDS) w = GAP + GAP_WORDS;
+        if (w + 6 > 7900) w = 0;
+        put3(DADD, D, w, D, w + 2, D, w + 4);
+    }
+    put(END);
+}
+
 int main(int words, char **word) {
+    static const int sizes[] = {100, 500, MOST};
     if (words != 2) {
         fprintf(stderr, "usage: files FOLDER\n");
         return 1;
     }
-    plain();
-    write_file(word[1], "plain");
+    for (int i = 0; i < 3; i++) {
+        plain(sizes[i]);
+        write_numbered(word[1], "plain", sizes[i]);
+        jumps(sizes[i]);
+        write_numbered(word[1], "jumps", sizes[i]);
+        dense(sizes[i]);
+        write_numbered(word[1], "dense", sizes[i]);
+    }
     labels(127);
     write_file(word[1], "labels");
     deep();
     write_file(word[1], "deep");
     put(END);
     write_file(word[1], "shortest");
-    plain();
+    plain(MOST);
     with(2, CONSTANT, 0, 0);
     write_file(word[1], "damaged");
     return 0;

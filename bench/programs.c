@@ -1,15 +1,15 @@
-/* Writes the programs that the scans are timed on, each by its name, into the folder that it is given. Each is a body of rungs in a loop, or in
-   loops, that makes about 10,000,000 steps, the most that a program may. */
+/* Writes the programs that the scans are timed on, each by its name, into the folder that it is given. Most are a body of rungs in a loop, or in
+   loops, that makes about 10,000,000 steps, the most that a program may. Those whose names end in a number show the growth: straight-N goes once
+   over its N records, and steps-N makes about N steps, all by the same records but for the passes of FOR. */
 #include "compose.h"
 
 enum { MOST_STEPS = 10000000 };
 
-/* The body stands at the start of the file and comes to w steps: it is put into a loop, or in two, that make as many passes as may be. */
-static void looped(int w) {
-    int outer = 1, passes = (MOST_STEPS - 2) / (w + 1);
-    if (passes > 32767) outer = 100, passes = ((MOST_STEPS - 2) / outer - 2) / (w + 1);
+/* The body stands at the start of the file: it is put into a loop, or in two, that make as many passes as come to at most so many steps. */
+static void looped(int steps) {
+    int body = count, outer = 1, passes = (steps - 2) / (body + 1);
+    if (passes > 32767) outer = 100, passes = ((steps - 2) / outer - 2) / (body + 1);
     memmove(file + 40, file, 20 * count);
-    int body = count;
     count = 0;
     put1(FOR, CONSTANT, outer);
     put1(FOR, CONSTANT, passes);
@@ -19,60 +19,84 @@ static void looped(int w) {
     put(END);
 }
 
-/* Coils with a hold, blocks in series and in parallel, branches, timers. */
+enum { BIT_RUNGS = 22, WORD_RUNGS = 15 };
+
+/* Coils with a hold, blocks in series and in parallel, branches, timers: 22 records. */
+static void bit_rungs(int i) {
+    put1(LD, X, 9 * i);
+    put1(OR, Y, 5 * i);
+    put1(ANI, X, 7 * i + 1);
+    put1(OUT, Y, 5 * i);
+    put1(LD, M, 31 * i);
+    put1(ANI, T, i);
+    put1(LDI, M, 31 * i + 1);
+    put1(AND, X, 3 * i + 2);
+    put(ORB);
+    put1(LD, SM, 2 * i);
+    put1(ORI, Y, 5 * i + 1);
+    put(ANB);
+    put1(OUT, M, 31 * i + 2);
+    put1(LD, M, 31 * i + 2);
+    put(MPS);
+    put1(AND, X, 11 * i);
+    put1(SET, M, 31 * i + 3);
+    put(MRD);
+    put1(ANI, X, 11 * i);
+    put1(RST, M, 31 * i + 3);
+    put(MPP);
+    put2(TON, T, i, CONSTANT, 200 + i);
+}
+
+/* 16-bit words: moves, sums, a quotient, comparisons, counts: 15 records. */
+static void word_rungs(int i) {
+    int d = 20 * i;
+    put1(LD, SM, 0);
+    put3(ADD, D, d, D, d + 1, D, d + 2);
+    put3(SUB, D, d + 2, CONSTANT, 77, D, d + 3);
+    put2(MOV, D, d + 3, D, d);
+    put1(INC, D, d + 1);
+    put1(DEC, D, d + 4);
+    put3(DIV, D, d + 2, CONSTANT, 10, D, d + 5);
+    put2(VABS, D, d + 5, D, d + 7);
+    put2(NEG, D, d + 7, D, d + 8);
+    put2(LDGT, D, d + 2, CONSTANT, 1000);
+    put2(MOV, CONSTANT, 12, D, d + 9);
+    put2(LDLT, D, d + 3, D, d + 4);
+    put1(INC, D, d + 10);
+    put2(LDEQ, D, d + 1, T, i);
+    put1(DEC, D, d + 11);
+}
+
 static void bits(void) {
-    for (int i = 0; i < 8; i++) {
-        put1(LD, X, 9 * i);
-        put1(OR, Y, 5 * i);
-        put1(ANI, X, 7 * i + 1);
-        put1(OUT, Y, 5 * i);
-        put1(LD, M, 31 * i);
-        put1(ANI, T, i);
-        put1(LDI, M, 31 * i + 1);
-        put1(AND, X, 3 * i + 2);
-        put(ORB);
-        put1(LD, SM, 2 * i);
-        put1(ORI, Y, 5 * i + 1);
-        put(ANB);
-        put1(OUT, M, 31 * i + 2);
-        put1(LD, M, 31 * i + 2);
-        put(MPS);
-        put1(AND, X, 11 * i);
-        put1(SET, M, 31 * i + 3);
-        put(MRD);
-        put1(ANI, X, 11 * i);
-        put1(RST, M, 31 * i + 3);
-        put(MPP);
-        put2(TON, T, i, CONSTANT, 200 + i);
-    }
-    looped(count);
+    for (int i = 0; i < 8; i++) bit_rungs(i);
+    looped(MOST_STEPS);
 }
 
-/* 16-bit words: moves, sums, a quotient, comparisons, counts. */
 static void words(void) {
-    for (int i = 0; i < 8; i++) {
-        int d = 20 * i;
-        put1(LD, SM, 0);
-        put3(ADD, D, d, D, d + 1, D, d + 2);
-        put3(SUB, D, d + 2, CONSTANT, 77, D, d + 3);
-        put2(MOV, D, d + 3, D, d);
-        put1(INC, D, d + 1);
-        put1(DEC, D, d + 4);
-        put3(DIV, D, d + 2, CONSTANT, 10, D, d + 5);
-        put2(VABS, D, d + 5, D, d + 7);
-        put2(NEG, D, d + 7, D, d + 8);
-        put2(LDGT, D, d + 2, CONSTANT, 1000);
-        put2(MOV, CONSTANT, 12, D, d + 9);
-        put2(LDLT, D, d + 3, D, d + 4);
-        put1(INC, D, d + 10);
-        put2(LDEQ, D, d + 1, T, i);
-        put1(DEC, D, d + 11);
-    }
-    looped(count);
+    for (int i = 0; i < 8; i++) word_rungs(i);
+    looped(MOST_STEPS);
 }
 
-/* 32-bit words with divisions and roots. */
-static void pairs(void) {
+/* Both in turn, once over: n records. */
+static void straight(int n) {
+    for (int i = 0; count + WORD_RUNGS < n; i++) {
+        if (count + BIT_RUNGS < n) bit_rungs(i % 8);
+        if (count + WORD_RUNGS < n) word_rungs(i % 8);
+    }
+    fill(n);
+}
+
+/* Both in turn, 296 records in a loop that comes to about so many steps. */
+static void mixed(int steps) {
+    for (int i = 0; i < 8; i++) {
+        bit_rungs(i);
+        word_rungs(i);
+    }
+    looped(steps);
+}
+
+/* 32-bit words with divisions, and with roots or without. */
+static void sums(int roots) {
     for (int i = 0; i < 8; i++) {
         int d = 40 * i;
         put1(LD, SM, 0);
@@ -83,28 +107,14 @@ static void pairs(void) {
         put2(DMOV, D, d + 10, D, d);
         put1(DINC, D, d + 2);
         put1(DDEC, D, d + 14);
-        put2(DSQT, CONSTANT, 83000 + 1000 * i, D, d + 16);
+        if (roots) put2(DSQT, CONSTANT, 83000 + 1000 * i, D, d + 16);
         put2(DMOV, D, d + 12, D, d + 18);
     }
-    looped(count);
+    looped(MOST_STEPS);
 }
 
-/* The same without the roots. */
-static void rootless(void) {
-    for (int i = 0; i < 8; i++) {
-        int d = 40 * i;
-        put1(LD, SM, 0);
-        put3(DADD, D, d, D, d + 2, D, d + 4);
-        put3(DSUB, D, d + 4, CONSTANT, 100000, D, d + 6);
-        put3(DMUL, D, d + 4, D, d + 6, D, d + 8);
-        put3(DDIV, D, d + 8, CONSTANT, 2000, D, d + 10);
-        put2(DMOV, D, d + 10, D, d);
-        put1(DINC, D, d + 2);
-        put1(DDEC, D, d + 14);
-        put2(DMOV, D, d + 12, D, d + 18);
-    }
-    looped(count);
-}
+static void pairs(void) { sums(1); }
+static void rootless(void) { sums(0); }
 
 /* Groups of bits as numbers of both widths. */
 static void groups(void) {
@@ -122,7 +132,7 @@ static void groups(void) {
         put1(DINC, M, 40 * i + 500);
         with(0, M, 8, 40 * i + 500);
     }
-    looped(count);
+    looped(MOST_STEPS);
 }
 
 /* FOR 1000, FOR 9997, NEXT, NEXT, 998 NOP, END: W is 10,000,000. */
@@ -155,6 +165,7 @@ int main(int arguments, char **argument) {
         const char *name;
         void (*compose)(void);
     } all[] = {{"bits", bits}, {"words", words}, {"pairs", pairs}, {"rootless", rootless}, {"groups", groups}, {"loops", loops}, {"deep", deep}};
+    static const int sizes[] = {100, 500, MOST};
     if (arguments != 2) {
         fprintf(stderr, "usage: programs FOLDER\n");
         return 1;
@@ -162,6 +173,14 @@ int main(int arguments, char **argument) {
     for (size_t i = 0; i < sizeof all / sizeof *all; i++) {
         all[i].compose();
         write_file(argument[1], all[i].name);
+    }
+    for (int i = 0; i < 3; i++) {
+        straight(sizes[i]);
+        write_numbered(argument[1], "straight", sizes[i]);
+    }
+    for (int steps = 10000; steps <= MOST_STEPS; steps *= 10) {
+        mixed(steps);
+        write_numbered(argument[1], "steps", steps);
     }
     return 0;
 }

@@ -1,33 +1,41 @@
-/* scan-driver PROGRAM..    one line for each program: its name, the steps of a scan, the nanoseconds of a step in C and in the proved scan, and
-                            the ratio to C
-   Both run by turns over the same memory, and the best round of each counts, in time of the process. Before that, both are run with a budget
-   of 0, of 1, of some steps between and of all, and must give the same answers and leave the same seven tables.
-   The proved scan checks the program first, at each call; with millions of steps that does not count. */
-#define _POSIX_C_SOURCE 199309L
+/* scan-driver PROGRAM.. [--growth PROGRAM..]
+
+   One line for each program: its name, the steps of a scan, the nanoseconds of a step, the ratio to the Rust reference, the ratio to C.
+   The proved scan and the reference check the program first, at each call, and C does not: with millions of steps that does not count.
+
+   After --growth, C checks the program at each call too, and the nanoseconds are of the whole call. Ahead of them stand, of C and of Ninhalto,
+   those of the check alone, and those of a call with a budget of 0 ("ready"), which checks, decodes and makes no step.
+
+   Before that, all sides run with a budget of 0, of 1, of some steps between and of all, and must give the same answers and leave the same seven
+   tables. */
+#include "driver.h"
 #include "scan.h"
-#include <stdio.h>
-#include <stdlib.h>
-#include <string.h>
-#include <time.h>
 
-enum { ROUNDS = 9, LONGEST = 65536, ELAPSED = 1 };
+enum { ROUNDS = 9, GROWTH_ROUNDS = 21, ELAPSED = 1 };
 
-static uint8_t file[LONGEST];
-static size_t size;
+/* So many scans of the file, one after the other over the same memory. */
+typedef void scans(const uint8_t *f, size_t n, struct memory *m, uint32_t elapsed, uint32_t budget, size_t times, size_t told[7]);
 
-static void proved_scan(const uint8_t *f, size_t n, struct memory *m, uint32_t elapsed, uint32_t budget, size_t told[7]) {
-    ninhalto_scan(f, n, m->x, sizeof m->x, m->y, sizeof m->y, m->m, sizeof m->m, m->sm, sizeof m->sm, m->t, sizeof m->t, m->d, 8000, m->tv, 256,
-                  elapsed, budget, told);
+static void c_scans(const uint8_t *f, size_t n, struct memory *m, uint32_t elapsed, uint32_t budget, size_t times, size_t told[7]) {
+    for (; times; times--) c_scan(f, n, m, elapsed, budget, told);
 }
 
-typedef void scan(const uint8_t *f, size_t n, struct memory *m, uint32_t elapsed, uint32_t budget, size_t told[7]);
-static scan *const side[2] = {c_scan, proved_scan};
-
-static double now(void) {
-    struct timespec t;
-    clock_gettime(CLOCK_PROCESS_CPUTIME_ID, &t);
-    return t.tv_sec * 1e9 + t.tv_nsec;
+static void c_checked_scans(const uint8_t *f, size_t n, struct memory *m, uint32_t elapsed, uint32_t budget, size_t times, size_t told[7]) {
+    uint64_t answer[4];
+    for (; times; times--) {
+        c_check(f, n, answer);
+        if (!answer[0]) c_scan(f, n, m, elapsed, budget, told);
+    }
 }
+
+static void proved_scans(const uint8_t *f, size_t n, struct memory *m, uint32_t elapsed, uint32_t budget, size_t times, size_t told[7]) {
+    for (; times; times--)
+        ninhalto_scan(f, n, m->x, sizeof m->x, m->y, sizeof m->y, m->m, sizeof m->m, m->sm, sizeof m->sm, m->t, sizeof m->t, m->d, 8000, m->tv,
+                      256, elapsed, budget, told);
+}
+
+static scans *const sides[3] = {c_scans, proved_scans, IF_REFERENCE(reference_scans)};
+static scans *const checked[3] = {c_checked_scans, proved_scans, IF_REFERENCE(reference_scans)};
 
 /* Bytes drawn as reference/FORMAT.md says. */
 static void draw(struct memory *m, uint32_t seed) {
@@ -38,56 +46,87 @@ static void draw(struct memory *m, uint32_t seed) {
     }
 }
 
-/* Both scans give the same answer and leave the same memory. Gives the steps. */
+/* All scans give the same answer and leave the same memory. Gives the steps. */
 static size_t agreed(const char *name, uint32_t seed, uint32_t budget) {
-    static struct memory memory[2];
-    size_t told[2][7];
+    static struct memory memory[3];
+    size_t told[3][7];
     memset(memory, 0, sizeof memory);
-    for (int s = 0; s < 2; s++) {
+    for (int s = 0; s < SIDES; s++) {
         if (seed) draw(&memory[s], seed);
-        side[s](file, size, &memory[s], ELAPSED, budget, told[s]);
-    }
-    if (memcmp(told[0], told[1], sizeof told[0]) || memcmp(&memory[0], &memory[1], sizeof memory[0])) {
-        fprintf(stderr, "%s: C and Ninhalto differ, seed %u, budget %u\n", name, seed, budget);
-        exit(1);
+        sides[s](file, size, &memory[s], ELAPSED, budget, 1, told[s]);
+        if (memcmp(told[0], told[s], sizeof told[0]) || memcmp(&memory[0], &memory[s], sizeof memory[0])) {
+            fprintf(stderr, "seed %u, budget %u: ", seed, budget);
+            differ(name, s);
+        }
     }
     return told[0][3];
 }
 
-static double timed(scan *f) {
+static size_t all_agreed(const char *name) {
+    static const uint32_t budgets[] = {0, 1, 2, 17, 100, 1001, 65537};
+    for (uint32_t seed = 0; seed < 4; seed++)
+        for (size_t i = 0; i < sizeof budgets / sizeof *budgets; i++) agreed(name, seed, budgets[i]);
+    agreed(name, 0, UINT32_MAX);
+    return agreed(name, 1, UINT32_MAX);
+}
+
+static double timed_scans(scans *f, uint32_t budget, long n) {
     static struct memory memory;
     size_t told[7];
     draw(&memory, 1);
     double from = now();
-    f(file, size, &memory, ELAPSED, UINT32_MAX, told);
+    f(file, size, &memory, ELAPSED, budget, n, told);
     return now() - from;
 }
 
-static void measure(const char *path) {
-    static const uint32_t budgets[] = {0, 1, 2, 17, 100, 1001, 65537};
-    const char *name = strrchr(path, '/') ? strrchr(path, '/') + 1 : path;
-    double best[2] = {0, 0};
-    FILE *in = fopen(path, "rb");
-    if (!in) {
-        perror(path);
-        exit(1);
+static double timed_scan(int s, long n) { return timed_scans(sides[s], UINT32_MAX, n); }
+static double timed_whole(int s, long n) { return timed_scans(checked[s], UINT32_MAX, n); }
+static double timed_ready(int s, long n) { return timed_scans(checked[s], 0, n); }
+
+static double timed_check(int s, long n) {
+    uint64_t answer[4];
+    double from = now();
+    for (long i = 0; i < n; i++) checks[s](file, size, answer);
+    return now() - from;
+}
+
+static void load_all(int files, char **path) {
+    loaded = 0;
+    for (int i = 0; i < files; i++) {
+        struct subject *f = load(path[i]);
+        f->steps = all_agreed(f->name);
     }
-    size = fread(file, 1, LONGEST, in);
-    fclose(in);
-    for (uint32_t seed = 0; seed < 4; seed++)
-        for (size_t i = 0; i < sizeof budgets / sizeof *budgets; i++) agreed(name, seed, budgets[i]);
-    agreed(name, 0, UINT32_MAX);
-    size_t steps = agreed(name, 1, UINT32_MAX);
-    for (int round = 0; round < ROUNDS; round++)
-        for (int s = 0; s < 2; s++) {
-            double t = timed(side[s]) / steps;
-            if (round == 0 || t < best[s]) best[s] = t;
-        }
-    printf("%-10s %9zu steps  C %6.2f ns  Ninhalto %7.2f ns a step  to C %6.2f\n", name, steps, best[0], best[1], best[1] / best[0]);
-    fflush(stdout);
+}
+
+static void measure(int files, char **path) {
+    timed *const part[1] = {timed_scan};
+    load_all(files, path);
+    take_turns(1, part, ROUNDS);
+    for (int i = 0; i < files; i++) {
+        struct subject *f = &subjects[i];
+        for (int s = 0; s < SIDES; s++) f->best[0][s] /= f->steps;
+        printf("%-14s  steps %8zu  a step", f->name, f->steps);
+        tell(f->best[0]);
+    }
+}
+
+static void measure_growth(int files, char **path) {
+    enum { CHECK, READY, WHOLE, PARTS };
+    timed *const parts[PARTS] = {timed_check, timed_ready, timed_whole};
+    load_all(files, path);
+    take_turns(PARTS, parts, GROWTH_ROUNDS);
+    for (int i = 0; i < files; i++) {
+        struct subject *f = &subjects[i];
+        printf("%-14s  steps %8zu  check %.0f and %.0f ns  ready %.0f and %.0f ns  whole", f->name, f->steps, f->best[CHECK][0], f->best[CHECK][1],
+               f->best[READY][0], f->best[READY][1]);
+        tell(f->best[WHOLE]);
+    }
 }
 
 int main(int words, char **word) {
-    for (int i = 1; i < words; i++) measure(word[i]);
+    int plain = 1;
+    while (plain < words && strcmp(word[plain], "--growth")) plain++;
+    measure(plain - 1, word + 1);
+    if (plain < words) measure_growth(words - plain - 1, word + plain + 1);
     return 0;
 }

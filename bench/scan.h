@@ -1,4 +1,4 @@
-/* The two scans that are compared, over the same file and tables; the proved one is ninhalto_scan. Each fills seven numbers: the refusal
+/* The three scans that are compared, over the same file and tables; the proved one is ninhalto_scan. Each fills seven numbers: the refusal
    (0: none) and the record told; 0 refused, 1 ended, 2 watchdog; the steps, the record stopped at, the first error and its record. */
 #include "../include/ninhalto.h"
 
@@ -10,3 +10,6 @@ struct memory {
 
 /* scan.c: of an accepted program, with elapsed units from 0 to 32767 */
 void c_scan(const uint8_t *file, size_t size, struct memory *memory, uint32_t elapsed, uint32_t budget, size_t told[7]);
+
+/* bench/reference: the reference in Rust; so many scans, one after the other over the same memory, which is copied in and out once */
+void reference_scans(const uint8_t *file, size_t size, struct memory *memory, uint32_t elapsed, uint32_t budget, size_t times, size_t told[7]);

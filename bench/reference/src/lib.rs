@@ -1,7 +1,9 @@
-//! The check, the move and the use map of the reference as functions that C can call.
+//! The check, the scan, the move and the use map of the reference as functions that C can call.
 
 use ninhalto_reference::check::check;
+use ninhalto_reference::memory::{Memory, IMAGE};
 use ninhalto_reference::mover::{move_block, Block, Pool};
+use ninhalto_reference::scan::scan;
 use ninhalto_reference::usemap::use_map;
 
 /// # Safety
@@ -13,6 +15,36 @@ pub unsafe extern "C" fn reference_check(file: *const u8, size: usize, out: *mut
         Err(refusal) => [u64::from(refusal.number), u64::from(refusal.record), 0, 0],
     };
     *out = told;
+}
+
+/// So many scans, one after the other. The tables of C are, on x86-64, the image of the memory; it is copied in and out
+/// once, so that the copies do not count among the scans.
+///
+/// # Safety
+/// `file` holds `size` bytes, and both `image` and `told` are free to write.
+#[no_mangle]
+pub unsafe extern "C" fn reference_scans(
+    file: *const u8,
+    size: usize,
+    image: *mut [u8; IMAGE],
+    elapsed: u32,
+    budget: u32,
+    times: usize,
+    told: *mut [usize; 7],
+) {
+    let file = std::slice::from_raw_parts(file, size);
+    let Some(mut memory) = Memory::from_image(&*image) else { return };
+    for _ in 0..times {
+        let words = match scan(file, &mut memory, elapsed, budget) {
+            Ok(answer) => {
+                let kind = if answer.ended { 1 } else { 2 };
+                [0, 0, kind, answer.steps, answer.record, answer.error, answer.error_record]
+            }
+            Err(refusal) => [refusal.number.into(), refusal.record, 0, 0, 0, 0, 0],
+        };
+        *told = words.map(|word| word as usize);
+    }
+    (*image).copy_from_slice(&memory.image());
 }
 
 /// # Safety
