@@ -18,7 +18,7 @@ fn bit(b: bool) -> usize
 }
 
 // One value and no flags.
-fn stored(z: i64) -> Outcome
+pub fn stored(z: i64) -> Outcome
     ensures { λ r. ⌜ r ≡ value z ⌝ }
 {
     Outcome {

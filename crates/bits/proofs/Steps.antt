@@ -2,12 +2,11 @@
 use mathlib.Core.Path.{_≡_, ap, ap₂, _∙_}
 use mathlib.Core.List.{List}
 use Prim.Native.Nat.{ℕ, zero, suc, _+_, _*_, _-_, _/_, _%_, _^_, _<_, _≤_}
-use native.Mathlib.Nat.{mod-lt, mod-eq-of-lt, div-le-self, one-mul, pow-suc, mul-le-mul-right}
+use native.Mathlib.Nat.{mod-lt, pow-suc, mul-le-mul-right}
 use native.Mathlib.Numerals.{add-one}
 use native.Mathlib.Omega.{arith}
-use lib.Dec.{lit<}
-use lib.Pow.{pow-pos, shl-exact}
-use lib.Bits.{bitAnd, bitOr, and-mask, or-shifted, or-shifted-r}
+use lib.Pow.{shl-exact}
+use lib.Bits.{bitAnd, bitOr, and-mask, or-shifted-r}
 use Rattle.ec20.specs.Bits.{bitAt, packed, byteWith, withBit, spread}
 
 -- a number below 8 is one of eight
@@ -22,10 +21,6 @@ by8 P a b c d e f g h (suc (suc (suc (suc (suc (suc zero)))))) l = g
 by8 P a b c d e f g h (suc (suc (suc (suc (suc (suc (suc zero))))))) l = h
 by8 P a b c d e f g h (suc (suc (suc (suc (suc (suc (suc (suc n)))))))) l = absurd (omega arith)
 
--- a 1 shifted to bit j
-pub one-shl : (j : ℕ) → j < 8 → (1 * 2 ^ j) % 2 ^ 64 ≡ 2 ^ j
-one-shl j h = shl-exact {a = 1} 1 j 64 (lit< tt) (omega arith) ∙ one-mul (2 ^ j)
-
 module _ (x j b : ℕ) (hx : x < 256) (hj : j < 8) (hb : b < 2) where
   -- a byte with a bit changed is a byte
   pub byte-lt : byteWith x j b < 256
@@ -33,16 +28,31 @@ module _ (x j b : ℕ) (hx : x < 256) (hj : j < 8) (hb : b < 2) where
   byte-lt =
       by8 (λ (k : ℕ). byteWith x k b < 256) (omega arith) (omega arith) (omega arith) (omega arith) (omega arith) (omega arith) (omega arith) (omega arith) j hj
 
-  -- shifts and masks take the byte apart at bit j and put it together again
-  pub byte-code : bitOr ((bitOr ((x / 2 ^ j / 2 * 2) % 2 ^ 64) b * 2 ^ j) % 2 ^ 64) (bitAnd x ((1 * 2 ^ j) % 2 ^ 64 - 1)) ≡ byteWith x j b
+  -- bit j where it stands in the byte, and b where it is to stand
+  bit-in : (bitAnd (x / 2 ^ j) 1 * 2 ^ j) % 2 ^ 64 ≡ x / 2 ^ j % 2 * 2 ^ j
+  bit-in =
+      ap (λ (y : ℕ). (y * 2 ^ j) % 2 ^ 64) (and-mask (x / 2 ^ j) 1)
+      ∙ shl-exact {a = x / 2 ^ j % 2} 1 j 64 (mod-lt (x / 2 ^ j) (omega arith)) (omega arith)
+
+  bit-new : (b * 2 ^ j) % 2 ^ 64 ≡ b * 2 ^ j
+  bit-new = shl-exact {a = b} 1 j 64 hb (omega arith)
+
+  bit-within : x / 2 ^ j % 2 * 2 ^ j ≤ x
+  bit-within =
+      by8 (λ (k : ℕ). x / 2 ^ k % 2 * 2 ^ k ≤ x) (omega arith) (omega arith) (omega arith) (omega arith) (omega arith) (omega arith) (omega arith) (omega arith) j hj
+
+  bit-changed : x - x / 2 ^ j % 2 * 2 ^ j + b * 2 ^ j ≡ byteWith x j b
   unfolding byteWith
-  byte-code =
-      let q : ℕ = x / 2 ^ j in
-      let l : q ≤ x = div-le-self x (2 ^ j) in
-      ap₂ (λ (y z : ℕ). bitOr ((bitOr y b * 2 ^ j) % 2 ^ 64) (bitAnd x (z - 1))) (mod-eq-of-lt {n = q / 2 * 2} {m = 2 ^ 64} (omega arith)) (one-shl j hj)
-      ∙ ap₂ (λ (y z : ℕ). bitOr ((y * 2 ^ j) % 2 ^ 64) z) (or-shifted (q / 2) 1 b hb) (and-mask x j)
-      ∙ ap (λ (y : ℕ). bitOr y (x % 2 ^ j)) (shl-exact {a = q / 2 * 2 + b} 9 j 64 (omega arith) (omega arith))
-      ∙ or-shifted (q / 2 * 2 + b) j (x % 2 ^ j) (mod-lt x (pow-pos j))
+  bit-changed =
+      by8 (λ (k : ℕ). x - x / 2 ^ k % 2 * 2 ^ k + b * 2 ^ k ≡ byteWith x k b) (omega arith) (omega arith) (omega arith) (omega arith) (omega arith) (omega arith) (omega arith) (omega arith) j hj
+
+  -- the byte has its bit j to give
+  pub bit-taken : (bitAnd (x / 2 ^ j) 1 * 2 ^ j) % 2 ^ 64 ≤ x
+  bit-taken = rw bit-in bit-within
+
+  -- without its bit j, and with b there, it is the byte with b for bit j
+  pub byte-code : x - (bitAnd (x / 2 ^ j) 1 * 2 ^ j) % 2 ^ 64 + (b * 2 ^ j) % 2 ^ 64 ≡ byteWith x j b
+  byte-code = ap₂ (λ (y z : ℕ). x - y + z) bit-in bit-new ∙ bit-changed
 
 -- one more bit is gathered
 module _ (bs : List ℕ) (first i v b : ℕ) (so-far : v ≡ packed bs first i) (below : v < 2 ^ i) (inside : i < 32) (is : b ≡ bitAt bs (first + i)) (hb : b < 2) where

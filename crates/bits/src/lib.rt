@@ -24,9 +24,7 @@ pub fn byte_with(x: u8, j: usize, b: usize) -> u8
     ensures { λ r. ⌜ r ≡ byteWith x j b ⌝ }
 {
     let y = x as usize;
-    let above = (y >> j) >> 1;
-    let below = y & ((1 << j) - 1);
-    ((((above << 1) | b) << j) | below) as u8
+    (y - (((y >> j) & 1) << j) + (b << j)) as u8
 }
 
 // b, 0 or 1, for bit number k of the table.

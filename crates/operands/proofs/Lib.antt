@@ -1,3 +1,3 @@
 -- What the proofs of several functions use.
-mod Steps
+pub mod Steps
 pub mod Laws

@@ -7,7 +7,8 @@ use native.Mathlib.Omega.{arith}
 use borrow.Author.Tests.{eq-eqb, ne-eqb, eqb-true}
 use lib.Dec.{eqb, leb}
 use lib.IntN.{ℤ, pos, negsuc}
-use lib.ListN.{getD, set}
+use lib.ListN.{length, getD, set, take}
+use lib.Seq.{take-length}
 use lib.Signed.{mag, ltZ}
 use mir.Syntax.{w64}
 use mir.Val.{toZ, ofZ, boolByte}
@@ -62,6 +63,10 @@ module _ (w : ℕ) (o : Operand) (x y m : List ℕ) (d tv : List ℤ) {r : ℤ} 
   pub read-m : eqb (o .kind) 1 ≡ false → eqb (o .kind) 7 ≡ false → (o .kind ≡ 6 → ⊥) → (o .kind ≡ 2 → ⊥) → (o .kind ≡ 3 → ⊥) → r ≡ groupAt w m (o .value) (o .group) → (sm t : List ℕ) → r ≡ loadOf w o (memory x y m sm t d tv)
   unfolding loadOf groupBits
   read-m k1 k7 k6 k2 k3 e sm t = rw (k1, ne-eqb _ _ k6, k7, ne-eqb _ _ k2, ne-eqb _ _ k3) e
+
+-- a slice of all there is of a table is the table
+pub all-of : (w : ℕ) (o : Operand) (x y m sm t : List ℕ) (d tv : List ℤ) (r : ℤ) → r ≡ loadOf w o (memory (take (length x) x) (take (length y) y) (take (length m) m) sm t d (take (length tv) tv)) → r ≡ loadOf w o (memory x y m sm t d tv)
+all-of w o x y m sm t d tv r e = e ∙ (λ i. loadOf w o (memory (take-length x i) (take-length y i) (take-length m i) sm t d (take-length tv i)))
 
 none-by : (b : Bool) (bs : List ℕ) (i : ℕ) → signed (pick b (2 ^ 15) (2 ^ 31)) (packed bs i (pick (leb (4 * 0) (pick b 16 32)) (4 * 0) (pick b 16 32))) ≡ pos 0
 unfolding packed

@@ -85,7 +85,12 @@ pub fn load(w: usize, o: Operand, x: &[u8], y: &[u8], m: &[u8], d: &[i16], tv: &
         _ => if nothing(o) {
             0
         } else {
-            other(w, o, x, y, m, tv)
+            // Slices made here: those of the parameters would be written to the stack at each load.
+            let nx = x.len();
+            let ny = y.len();
+            let nm = m.len();
+            let nt = tv.len();
+            other(w, o, &x[..nx], &y[..ny], &m[..nm], &tv[..nt])
         },
     }
 }
@@ -99,7 +104,14 @@ pub fn load_word(o: Operand, x: &[u8], y: &[u8], m: &[u8], d: &[i16], tv: &[i16]
     match k {
         7 => words::word_at(d, o.value),
         1 => constant(16, o),
-        _ => other(16, o, x, y, m, tv),
+        _ => {
+            // Slices made here, as in `load`.
+            let nx = x.len();
+            let ny = y.len();
+            let nm = m.len();
+            let nt = tv.len();
+            other(16, o, &x[..nx], &y[..ny], &m[..nm], &tv[..nt])
+        }
     }
 }
 
@@ -148,7 +160,7 @@ fn next(w: usize, o: Operand) -> Operand
 }
 
 // The second of two values, in the target that follows; nothing where there is one value only.
-fn second(w: usize, o: Operand, r: Outcome, y: &mut [u8], m: &mut [u8], d: &mut [i16])
+pub fn second(w: usize, o: Operand, r: Outcome, y: &mut [u8], m: &mut [u8], d: &mut [i16])
     requires { ⌜ (o .value < 2 ^ 32) × (mag (r .second) < half w) ⌝ }
     ensures { λ _. ⌜ ((x sm t : List ℕ) (tv : List ℤ) → memory x (now (y .exit)) (now (m .exit)) sm t (now (d .exit)) tv ≡ pick (eqb (r .two) 1) (storeOf w (following w o) (r .second) (memory x (now (y .entry)) (now (m .entry)) sm t (now (d .entry)) tv)) (memory x (now (y .entry)) (now (m .entry)) sm t (now (d .entry)) tv)) ⌝ }
 {
@@ -164,7 +176,7 @@ fn second(w: usize, o: Operand, r: Outcome, y: &mut [u8], m: &mut [u8], d: &mut 
 }
 
 // "SM180 on exactly if the exact result is 0, SM181 if it is above the width's range, SM182 if below"; nothing where flags stay.
-fn flags(r: Outcome, sm: &mut [u8])
+pub fn flags(r: Outcome, sm: &mut [u8])
     requires { ⌜ (r .zero < 2) × (r .above < 2) × (r .below < 2) ⌝ }
     ensures { λ _. ⌜ now (sm .exit) ≡ pick (eqb (r .flags) 1) (withFlags r (now (sm .entry))) (now (sm .entry)) ⌝ }
 {

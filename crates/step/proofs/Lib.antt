@@ -1,4 +1,4 @@
 -- What a step's calls give, put together.
-pub mod WordLaws
+pub mod ActionLaws
 pub mod ExecLaws
 pub mod FormLaws

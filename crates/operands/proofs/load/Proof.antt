@@ -2,15 +2,16 @@
 use borrow.Author.Tests.{ne-eqb}
 use mathlib.Core.Path.{refl, sym, _∙_}
 use native.Mathlib.Omega.{arith}
+use lib.ListN.{length-take}
 use mir.Syntax.{w64}
 use Rattle.ints.proofs.Parts.{said}
-use Rattle.operands.proofs.Steps.{half-least, read-constant, read-d, read-none}
+use Rattle.operands.proofs.Steps.{all-of, half-least, read-constant, read-d, read-none}
 use borrow.Author.Needs.{needs}
 use Rattle.operands.proofs.load.Statement.{statement}
 use Rattle.operands.proofs.load.Tie as tie
 
 other-requires : tie.Need-other-requires
-other-requires c κs = (c .before .before .before .before .before .before .pre, ne-eqb _ _ (c .before .before .match .rest .1), ne-eqb _ _ (c .before .before .match .rest .0 .1))
+other-requires c κs = (c .before .before .before .before .before .before .before .before .before .before .pre, ne-eqb _ _ (c .before .before .before .before .before .before .match .rest .1), ne-eqb _ _ (c .before .before .before .before .before .before .match .rest .0 .1))
 
 returns : tie.Need-returns
 returns c =
@@ -30,7 +31,7 @@ returns-3 c =
 returns-4 : tie.Need-returns-4
 returns-4 c =
     let s = said w64 (c .other .ok) refl in
-    (λ sm t. s ∙ c .other .ensures .0 sm t _, rw s (c .other .ensures .1))
+    (λ sm t. all-of _ _ _ _ _ _ _ _ _ _ (s ∙ c .other .ensures .0 sm t _), rw s (c .other .ensures .1))
 
 pub load-spec : {M : Type 1} → statement M
 load-spec =
@@ -39,6 +40,10 @@ load-spec =
     (λ c κs. search needs)
     (λ c κs. search needs)
     (λ c κs. search needs)
+    (λ c. simp length-take (omega arith))
+    (λ c. simp length-take (omega arith))
+    (λ c. simp length-take (omega arith))
+    (λ c. simp length-take (omega arith))
     other-requires
     returns
     returns-2

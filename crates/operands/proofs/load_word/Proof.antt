@@ -1,16 +1,18 @@
 -- By the kind. Assumes nothing.
 use borrow.Author.Tests.{ne-eqb}
 use mathlib.Core.Path.{refl, _∙_}
+use native.Mathlib.Omega.{arith}
+use lib.ListN.{length-take}
 use mir.Syntax.{w64}
 use Rattle.ints.proofs.Parts.{said}
-use Rattle.operands.proofs.Steps.{read-constant, read-d}
+use Rattle.operands.proofs.Steps.{all-of, read-constant, read-d}
 use Rattle.ec20.specs.Registers.{numberAt}
 use borrow.Author.Needs.{needs}
 use Rattle.operands.proofs.load_word.Statement.{statement}
 use Rattle.operands.proofs.load_word.Tie as tie
 
 other-requires : tie.Need-other-requires
-other-requires c κs = (c .before .before .before .before .pre, ne-eqb _ _ (c .match .rest .1), ne-eqb _ _ (c .match .rest .0 .1))
+other-requires c κs = (c .before .before .before .before .before .before .before .before .pre, ne-eqb _ _ (c .before .before .before .before .match .rest .1), ne-eqb _ _ (c .before .before .before .before .match .rest .0 .1))
 
 returns : tie.Need-returns
 unfolding numberAt
@@ -26,9 +28,19 @@ returns-2 c =
 returns-3 : tie.Need-returns-3
 returns-3 c =
     let s = said w64 (c .other .ok) refl in
-    (λ sm t. s ∙ c .other .ensures .0 sm t _, rw s (c .other .ensures .1))
+    (λ sm t. all-of _ _ _ _ _ _ _ _ _ _ (s ∙ c .other .ensures .0 sm t _), rw s (c .other .ensures .1))
 
 pub load-word-spec : {M : Type 1} → statement M
 load-word-spec =
     tie.close
-    (tie.spec (λ c κs. search needs) (λ c κs. search needs) other-requires returns returns-2 returns-3)
+    (tie.spec
+    (λ c κs. search needs)
+    (λ c κs. search needs)
+    (λ c. simp length-take (omega arith))
+    (λ c. simp length-take (omega arith))
+    (λ c. simp length-take (omega arith))
+    (λ c. simp length-take (omega arith))
+    other-requires
+    returns
+    returns-2
+    returns-3)
