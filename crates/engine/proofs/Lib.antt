@@ -1,3 +1,4 @@
--- A run under way.
+-- A run under way, and its end.
+pub mod Ending
 pub mod Going
 pub mod ScanLaws

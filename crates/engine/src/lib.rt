@@ -1,16 +1,20 @@
 // A scan: a run of at most so many steps over the lent memory.
 ghost use Prim.Native.Nat.{_≤_};
 ghost use Rattle.ec20.specs.Devices.{ec20};
-ghost use Rattle.ec20.specs.Code.{programIn};
+ghost use Rattle.ec20.specs.Code.{codeOf, programIn};
+ghost use Rattle.ec20.specs.Control.{controlOf};
 ghost use Rattle.ec20.specs.File.{recordsFrom, framed};
+ghost use Rattle.ec20.specs.Flow.{stopped};
 ghost use Rattle.ec20.specs.Memory.{memory, sized};
 ghost use Rattle.ec20.specs.Scan.{startState, answerOf, scan, runScan, scanOf, plainScan};
-ghost use Rattle.engine.specs.Runs.{ranFrom, fittingScan};
+ghost use Rattle.engine.specs.Ends.{ends};
+ghost use Rattle.engine.specs.Runs.{ranFrom, reportOf, fittingScan};
 ghost use Rattle.records.specs.Ranges.{Held};
 ghost use Rattle.step.specs.Ready.{Running};
 ghost use lib.ListN.{length};
 ghost use mathlib.Core.Bool.{true};
 ghost use mathlib.Core.Path.{_≡_};
+use ec20::Control;
 use ec20::Frame;
 use ec20::Machine;
 use ec20::Report;
@@ -34,23 +38,53 @@ fn start() -> Machine
     }
 }
 
-// Ended or watchdog, the steps, the record stopped at, and the first error with its record.
-fn answer(s: Machine, k: usize) -> Scanned
-    ensures { λ r. ⌜ r ≡ answerOf k s ⌝ }
+// The steps, the record stopped at, and the first error with its record.
+fn report(s: Machine, k: usize) -> Report
+    ensures { λ r. ⌜ r ≡ reportOf k s ⌝ }
 {
-    let r = Report {
+    Report {
         steps: k,
         stop: s.pc,
         error: s.error,
         at: s.at,
-    };
+    }
+}
+
+// Ended or watchdog, with the report.
+fn answer(s: Machine, k: usize) -> Scanned
+    ensures { λ r. ⌜ r ≡ answerOf k s ⌝ }
+{
+    let r = report(s, k);
     if s.ended == 0 {
         return Scanned::Watchdog(r);
     }
     Scanned::Ended(r)
 }
 
-// At most `budget` steps, from record 0 on.
+// END is one step more, which is counted in k, and stays the record stopped at.
+fn ended(s: Machine, k: usize) -> Scanned
+    ensures { λ r. ⌜ r ≡ answerOf k (stopped s) ⌝ }
+{
+    Scanned::Ended(report(s, k))
+}
+
+// Whether the record due is END, as it is past the last record.
+fn at_end(f: &[u8], first: usize, count: usize, k: usize) -> bool
+    requires { ⌜ Held (length (now f)) first count ⌝ }
+    ensures { λ r. ⌜ r ≡ ends (controlOf (codeOf (recordsFrom (now (f .entry)) first count) k)) ⌝ }
+{
+    match decode::control_at(f, first, count, k) {
+        Control::Ends => true,
+        Control::Plain => false,
+        Control::Opens(_) => false,
+        Control::Closes => false,
+        Control::Jumps(_) => false,
+        Control::Marks(_) => false,
+    }
+}
+
+// At most `budget` steps, from record 0 on. END is looked for ahead of each step and never given to one, so that no step has to be asked
+// whether it was the last.
 pub fn run(
     rows: &[[u8; 11]; 56],
     f: &[u8],
@@ -76,8 +110,9 @@ pub fn run(
     let mut s = start();
     let mut k: usize = 0;
     while k < budget {
-        if s.ended != 0 {
-            return answer(s, k);
+        let due = at_end(f, first, count, s.pc);
+        if due {
+            return ended(s, k + 1);
         }
         s = step::step(
             rows,
