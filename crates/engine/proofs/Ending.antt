@@ -5,7 +5,7 @@ use mathlib.Core.Path.{_≡_, refl, subst}
 use lib.Dec.{eqb, ltb}
 use lib.ListN.{getD}
 use Rattle.bound.proofs.Onward.{contact-on, compare-on, join-on, branch-on, word-on}
-use Rattle.bound.proofs.Rows.{picked}
+use Rattle.ec20.proofs.Tests.{picked}
 use Rattle.ec20.specs.Code.{Program}
 use Rattle.ec20.specs.Control.{controlOf}
 use Rattle.ec20.specs.Flow.{stopped}

@@ -86,7 +86,6 @@ fn at_end(f: &[u8], first: usize, count: usize, k: usize) -> bool
 // At most `budget` steps, from record 0 on. END is looked for ahead of each step and never given to one, so that no step has to be asked
 // whether it was the last.
 pub fn run(
-    rows: &[[u8; 11]; 56],
     f: &[u8],
     first: usize,
     count: usize,
@@ -102,7 +101,7 @@ pub fn run(
     d: &mut [i16],
     tv: &mut [i16],
 ) -> Scanned
-    requires { ⌜ Running (now rows) (now f) first count (now nexts) (now places) e ⌝ }
+    requires { ⌜ Running (now f) first count (now nexts) (now places) e ⌝ }
     ensures { λ r. ⌜ scan r (memory (now (x .entry)) (now (y .exit)) (now (m .exit)) (now (sm .exit)) (now (t .exit)) (now (d .exit)) (now (tv .exit))) ≡ ranFrom (programIn (recordsFrom (now (f .entry)) first count)) e budget (memory (now (x .entry)) (now (y .entry)) (now (m .entry)) (now (sm .entry)) (now (t .entry)) (now (d .entry)) (now (tv .entry))) ⌝ }
 {
     let mut left = [0usize; 8];
@@ -115,7 +114,6 @@ pub fn run(
             return ended(s, k + 1);
         }
         s = step::step(
-            rows,
             f,
             first,
             count,
@@ -169,12 +167,10 @@ fn prepared_run(
     requires { ⌜ Held (length (now f)) first count × (e ≤ 32767) ⌝ }
     ensures { λ r. ⌜ scan r (memory (now (x .entry)) (now (y .exit)) (now (m .exit)) (now (sm .exit)) (now (t .exit)) (now (d .exit)) (now (tv .exit))) ≡ runScan (programIn (recordsFrom (now (f .entry)) first count)) e budget (memory (now (x .entry)) (now (y .entry)) (now (m .entry)) (now (sm .entry)) (now (t .entry)) (now (d .entry)) (now (tv .entry))) ⌝ }
 {
-    let rows = instructions::table();
     let nexts = jumps::next_places(f, first, count);
     let places = jumps::label_places(f, first, count);
     bits::put_bit(sm, 0, 1);
     run(
-        &rows,
         f,
         first,
         count,

@@ -130,14 +130,3 @@ pub fn form_in(rows: &[[u8; 11]; 56], n: usize) -> u8
     }
     0
 }
-
-// The first operand's width alone, which every word instruction asks for.
-pub fn width_in(rows: &[[u8; 11]; 56], n: usize) -> u8
-    requires { ⌜ now rows ≡ cells ⌝ }
-    ensures { λ r. ⌜ r ≡ rowOf n .first .width ⌝ }
-{
-    if n < 56 {
-        return rows[n][3];
-    }
-    0
-}

@@ -121,7 +121,7 @@ with-sm-by : (b : Bool) (r : Outcome) (c : Memory) → withSM c (pick b (withFla
 with-sm-by true r c = refl
 with-sm-by false r c = refl
 
--- what the three calls of store_all come to, for any tables that they do not hold
+-- an outcome that is no error, stored: what store, second and flags come to, for any tables that they do not hold
 module _ (w : ℕ) (o : Operand) (r : Outcome) (y m sm y1 m1 y2 m2 sm2 : List ℕ) (d d1 d2 : List ℤ) (z : ℤ)
     (is : z ≡ r .value)
     (first : (x sm t : List ℕ) (tv : List ℤ) → memory x y1 m1 sm t d1 tv ≡ storeOf w o z (memory x y m sm t d tv))

@@ -14,7 +14,7 @@ ghost use lib.Signed.{mag};
 ghost use Rattle.ec20.specs.Basics.{pick, one-if};
 ghost use Rattle.ec20.specs.Numbers.{bitsIn, half};
 ghost use Rattle.ec20.specs.Memory.{memory, loadBit, storeBit, constantAt, loadOf, storeOf, following};
-ghost use Rattle.ec20.specs.Words.{withFlags, storeAll};
+ghost use Rattle.ec20.specs.Words.{withFlags};
 ghost use Rattle.ec20.specs.Flow.{coilOf};
 ghost use Rattle.ec20.specs.Timers.{unitsOf, oldOf, countedOf, contactIs, limitAt, timerOf};
 ghost use Rattle.arith.specs.Bounded.{Bounded};
@@ -185,24 +185,6 @@ pub fn flags(r: Outcome, sm: &mut [u8])
         bits::put_bit(sm, 181, r.above);
         bits::put_bit(sm, 182, r.below);
     }
-}
-
-// An outcome that is no error, stored in the target of w bits: the value, the second value in the target that follows, the flags.
-pub fn store_all(
-    w: usize,
-    o: Operand,
-    r: Outcome,
-    y: &mut [u8],
-    m: &mut [u8],
-    sm: &mut [u8],
-    d: &mut [i16],
-)
-    requires { ⌜ (o .value < 2 ^ 32) × Bounded (half w) r ⌝ }
-    ensures { λ _. ⌜ ((x t : List ℕ) (tv : List ℤ) → memory x (now (y .exit)) (now (m .exit)) (now (sm .exit)) t (now (d .exit)) tv ≡ storeAll w o r (memory x (now (y .entry)) (now (m .entry)) (now (sm .entry)) t (now (d .entry)) tv)) ⌝ }
-{
-    store(w, o, r.value, y, m, d);
-    second(w, o, r, y, m, d);
-    flags(r, sm);
 }
 
 // "bit: Y, M": the bit that the operand names made b.

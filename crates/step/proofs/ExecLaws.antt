@@ -84,3 +84,7 @@ module _ (p : Program) (e : ℕ) where
     pub word-arm : {n : ℕ} {o u t : Operand} {v : World} → p .code (s .pc) ≡ Word n o u t → v ≡ wordOf n o u t (world c l b s) → v ≡ stepOf p e (world c l b s)
     unfolding execOf
     word-arm g f = in-arm (world c l b s) g f
+
+-- memory and state, each by its own equation
+pub both-parts : (left back : List ℕ) {c c′ : Memory} {s s′ : Machine} → c ≡ c′ → s ≡ s′ → world c left back s ≡ world c′ left back s′
+both-parts left back e f = rw (e, f) refl

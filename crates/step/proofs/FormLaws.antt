@@ -22,7 +22,7 @@ use Rattle.ec20.specs.declared.Instr.the-variants.{Nop, Contact, Compare, Join,
 use Rattle.ec20.specs.declared.Machine.{Machine}
 use Rattle.ec20.specs.declared.Operand.{Operand}
 use Rattle.step.specs.Ready.{Running, Due, Left}
-use Rattle.step.specs.Done.{isWord, secondOf, targetOf}
+use Rattle.actions.specs.Done.{isWord, secondOf, targetOf}
 
 -- past the last record there is END
 pub ended : (f : List ℕ) (first count k : ℕ) → count ≤ k → codeOf (recordsFrom f first count) k ≡ End

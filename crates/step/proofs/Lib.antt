@@ -1,4 +1,3 @@
 -- What a step's calls give, put together.
-pub mod ActionLaws
 pub mod ExecLaws
 pub mod FormLaws

@@ -1,3 +1,2 @@
--- What the step asks of an instruction, and what a word instruction does.
+-- What the step asks of an instruction.
 pub mod Ready
-pub mod Done

@@ -1,6 +1,4 @@
 // One step: the instructions over memory and state.
-mod actions;
-
 ghost use Prim.Native.Nat.{ℕ, _+_, _<_, _≤_, _^_};
 ghost use Rattle.ec20.specs.Flow.{isOn, acted, compareOf, coilOf};
 ghost use Rattle.ec20.specs.Memory.{memory, loadOf};

@@ -11,12 +11,12 @@ use Rattle.engine.proofs.run.Statement.{statement}
 use Rattle.engine.proofs.run.Tie as tie
 
 abbrev Inv-loop : tie.InvT-loop
-Inv-loop rows f first count nexts places e budget x y₀ m₀ sm₀ t₀ d₀ tv₀ left₀ back₀ s₀ k₀ y m sm t d tv left back s k =
+Inv-loop f first count nexts places e budget x y₀ m₀ sm₀ t₀ d₀ tv₀ left₀ back₀ s₀ k₀ y m sm t d tv left back s k =
     Going (recordsFrom f first count) e budget (memory x y₀ m₀ sm₀ t₀ d₀ tv₀) (world (memory x y m sm t d tv) left back s) k
     × (length y ≡ length y₀) × (length m ≡ length m₀) × (length sm ≡ length sm₀) × (length t ≡ length t₀) × (length d ≡ length d₀) × (length tv ≡ length tv₀)
 
 abbrev μ-loop : tie.MeasureT-loop
-μ-loop rows f first count nexts places e budget x y₀ m₀ sm₀ t₀ d₀ tv₀ left₀ back₀ s₀ k₀ y m sm t d tv left back s k =
+μ-loop f first count nexts places e budget x y₀ m₀ sm₀ t₀ d₀ tv₀ left₀ back₀ s₀ k₀ y m sm t d tv left back s k =
     budget - k
 
 loop-holds : tie.Need-loop-holds Inv-loop μ-loop

@@ -1,4 +1,4 @@
-use Rattle.step.proofs.ActionLaws.{both-parts}
+use Rattle.step.proofs.ExecLaws.{both-parts}
 use Rattle.ec20.specs.Flow.{coilOf}
 use Rattle.ec20.specs.Step.{world}
 use mathlib.Core.Path.{_≡_, ap, ap₂, _∙_}

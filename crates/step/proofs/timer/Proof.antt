@@ -1,4 +1,4 @@
-use Rattle.step.proofs.ActionLaws.{both-parts}
+use Rattle.step.proofs.ExecLaws.{both-parts}
 use borrow.Author.Needs.{needs}
 use Rattle.step.proofs.timer.Statement.{statement}
 use Rattle.step.proofs.timer.Tie as tie

@@ -1,16 +1,16 @@
 use mathlib.Core.Path.{sym, _∙_}
 use borrow.Author.Tests.{not-true, not-false}
-use Rattle.step.proofs.ActionLaws.{word-off, word-on, under-48, from-48}
+use Rattle.actions.proofs.Laws.{word-off, word-on, under-48, from-48}
 use borrow.Author.Needs.{needs}
-use Rattle.step.proofs.actions.word.Statement.{statement}
-use Rattle.step.proofs.actions.word.Tie as tie
-use Rattle.step.proofs.actions.word.Reads as reads
-use Rattle.step.proofs.actions.word.Lts as lts
+use Rattle.actions.proofs.word.Statement.{statement}
+use Rattle.actions.proofs.word.Tie as tie
+use Rattle.actions.proofs.word.Reads as reads
+use Rattle.actions.proofs.word.Lts as lts
 use Rattle.flow.proofs.act.Reads as act-reads
 use Rattle.flow.proofs.is_on.Reads as is-on-reads
-use Rattle.step.proofs.actions.act16.Reads as act16-reads
-use Rattle.step.proofs.actions.act32.Reads as act32-reads
-use Rattle.step.proofs.actions.settled.Reads as settled-reads
+use Rattle.actions.proofs.act16.Reads as act16-reads
+use Rattle.actions.proofs.act32.Reads as act32-reads
+use Rattle.actions.proofs.settled.Reads as settled-reads
 
 -- src/actions.rt:211:9
 is-on-requires : tie.Need-is-on-requires

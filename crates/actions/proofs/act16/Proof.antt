@@ -8,12 +8,12 @@ use Rattle.ec20.specs.Words.{computeOf, sumOf}
 use Rattle.ec20.specs.declared.Outcome.{Outcome}
 use Rattle.ints.proofs.Parts.{said}
 use Rattle.operands.proofs.Steps.{all-stored}
-use Rattle.step.proofs.ActionLaws.{at-number, of-two, of-one, refused, kept, no-second, no-flags, div-flags, sqt-two, vabs-two, vabs-flags, neg-two, neg-flags, bounded, value-is, value-fits, only-32, only-48}
+use Rattle.actions.proofs.Laws.{at-number, of-two, of-one, refused, kept, no-second, no-flags, div-flags, sqt-two, vabs-two, vabs-flags, neg-two, neg-flags, bounded, value-is, value-fits, only-32, only-48}
 use borrow.Author.Needs.{needs}
-use Rattle.step.proofs.actions.act16.Statement.{statement}
-use Rattle.step.proofs.actions.act16.Tie as tie
-use Rattle.step.proofs.actions.act16.Reads as reads
-use Rattle.step.proofs.actions.act16.Lts as lts
+use Rattle.actions.proofs.act16.Statement.{statement}
+use Rattle.actions.proofs.act16.Tie as tie
+use Rattle.actions.proofs.act16.Reads as reads
+use Rattle.actions.proofs.act16.Lts as lts
 use Rattle.arith.proofs.add.Reads as add-reads
 use Rattle.arith.proofs.dec.Reads as dec-reads
 use Rattle.arith.proofs.div.Reads as div-reads

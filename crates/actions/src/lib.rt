@@ -5,7 +5,7 @@ ghost use Rattle.ec20.specs.File.{operandAt};
 ghost use Rattle.ec20.specs.Flow.{acted, failed};
 ghost use Rattle.ec20.specs.Memory.{memory};
 ghost use Rattle.ec20.specs.Step.{world, wordOf};
-ghost use Rattle.step.specs.Done.{Done, secondOf, targetOf, isWord};
+ghost use Rattle.actions.specs.Done.{Done, secondOf, targetOf, isWord};
 ghost use lib.Dec.{eqb};
 ghost use lib.ListN.{length};
 ghost use mathlib.Core.Bool.{true};

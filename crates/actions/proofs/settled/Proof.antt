@@ -1,9 +1,9 @@
 use borrow.Author.Tests.{eq-eqb, ne-eqb}
 use borrow.Author.Needs.{needs}
-use Rattle.step.proofs.actions.settled.Statement.{statement}
-use Rattle.step.proofs.actions.settled.Tie as tie
-use Rattle.step.proofs.actions.settled.Reads as reads
-use Rattle.step.proofs.actions.settled.Lts as lts
+use Rattle.actions.proofs.settled.Statement.{statement}
+use Rattle.actions.proofs.settled.Tie as tie
+use Rattle.actions.proofs.settled.Reads as reads
+use Rattle.actions.proofs.settled.Lts as lts
 use Rattle.flow.proofs.act.Reads as act-reads
 use Rattle.flow.proofs.fail.Reads as fail-reads
 

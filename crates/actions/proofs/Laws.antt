@@ -25,7 +25,7 @@ use Rattle.ec20.specs.Words.{computeOf, storeAll, withFlags, divOf, sqtOf, vabs
 use Rattle.ec20.specs.declared.Machine.{Machine}
 use Rattle.ec20.specs.declared.Operand.{Operand}
 use Rattle.ec20.specs.declared.Outcome.{Outcome}
-use Rattle.step.specs.Done.{Done, secondOf, targetOf, isWord}
+use Rattle.actions.specs.Done.{Done, secondOf, targetOf, isWord}
 
 -- the number is k
 pub at-number : (f : List ℕ) (i : ℕ) {n k q : ℕ} {c after : Memory} → n ≡ k
@@ -113,10 +113,6 @@ module _ (n : ℕ) (a b t : Operand) (c : Memory) (left back : List ℕ) (s : Ma
       by : (z : Bool) → world (pick z (storeAll (widthOf n) t (outcomeOf n a b c) c) c) left back (pick z (acted s) (failed s (outcomeOf n a b c .error))) ≡ pick z (world (storeAll (widthOf n) t (outcomeOf n a b c) c) left back (acted s)) (world c left back (failed s (outcomeOf n a b c .error)))
       by true = refl
       by false = refl
-
--- memory and state, each by its own equation
-pub both-parts : (left back : List ℕ) {c c′ : Memory} {s s′ : Machine} → c ≡ c′ → s ≡ s′ → world c left back s ≡ world c′ left back s′
-both-parts left back e f = rw (e, f) refl
 
 -- a word instruction's number below 48, and from 48 on
 pub under-48 : (n : ℕ) → isWord n ≡ true → n < 48 → (32 ≤ n) × (n ≤ 40)

@@ -1,0 +1,2 @@
+-- What a word instruction's calls give, put together.
+mod Laws

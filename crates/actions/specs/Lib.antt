@@ -1,0 +1,2 @@
+-- What a word instruction does.
+pub mod Done
