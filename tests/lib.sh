@@ -163,6 +163,25 @@ replaced() {
         tried 0 "$answer" "$ninhalto" "$command" it "$@"
         same "mode $mode" $mode "$(stat -c %a "$room/it")"
     done
+    # A mode that cannot be given is told; the answer stands. So does the mode where the answer cannot be written, which is told too.
+    rm -f "$room/it"
+    cp "$room/$old" "$room/it"
+    mkdir -p "$room/no-chmod"
+    printf '#!/bin/sh\nexit 1\n' >"$room/no-chmod/chmod"
+    chmod 755 "$room/no-chmod/chmod"
+    (cd "$room" && PATH=$room/no-chmod:$PATH "$ninhalto" "$command" it "$@") >"$room/said-out" 2>"$room/said-err"
+    same 'no chmod: status' 0 $?
+    same 'no chmod: answer' "$answer" "$(cat "$room/said-out")"
+    same 'no chmod: words' 'ninhalto: it: replaced, but not with the mode that it had' "$(cat "$room/said-err")"
+    same 'no chmod: file' '' "$(cmp "$room/it" "$room/$new")"
+    rm -f "$room/it"
+    cp "$room/$old" "$room/it"
+    chmod 640 "$room/it"
+    (cd "$room" && "$ninhalto" "$command" it "$@") >/dev/full 2>"$room/said-err"
+    same 'a full disk: status' 2 $?
+    same 'a full disk: words' 'ninhalto: the answer could not be written' "$(cat "$room/said-err")"
+    same 'a full disk: file' '' "$(cmp "$room/it" "$room/$new")"
+    same 'a full disk: mode' 640 "$(stat -c %a "$room/it")"
     # A link stays a link, and another name of the old file keeps the old bytes.
     rm -f "$room/it"
     cp "$room/$old" "$room/it"

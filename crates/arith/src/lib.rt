@@ -7,8 +7,7 @@ ghost use lib.IntN.{pos, _+ℤ_, _-ℤ_, _*ℤ_};
 ghost use lib.Signed.{mag};
 ghost use Rattle.ec20.specs.Basics.{one-if};
 ghost use Rattle.ec20.specs.Numbers.{wrap, rootOf};
-ghost use Rattle.ec20.specs.Words.{value, values, failure, flagged, sumOf, divOf, rooted, sqtOf, vabsOf, negOf, computeOf};
-ghost use Rattle.arith.specs.Bounded.{Bounded};
+ghost use Rattle.ec20.specs.Words.{value, values, failure, flagged, sumOf, divOf, rooted, sqtOf, vabsOf, negOf};
 
 // 1 for true, 0 for false.
 fn bit(b: bool) -> usize
@@ -211,24 +210,5 @@ pub fn neg(a: i64, h: u64) -> Outcome
         refused(2)
     } else {
         stored(ints::opposite(a))
-    }
-}
-
-// What the word instruction n comes to, of its sources a and b. MOV and DMOV, and any other number, hand a on.
-pub fn compute(n: usize, h: u64, a: i64, b: i64) -> Outcome
-    requires { ⌜ (h ≤ 2 ^ 31) × (mag a < h) × (mag b < h) ⌝ }
-    ensures { λ r. ⌜ (r ≡ computeOf n h a b) × Bounded h r ⌝ }
-{
-    match n {
-        33 | 49 => add(a, b, h),
-        34 | 50 => sub(a, b, h),
-        35 | 52 => div(a, b, h),
-        36 | 53 => sqt(a),
-        37 | 54 => inc(a, h),
-        38 | 55 => dec(a, h),
-        39 => vabs(a, h),
-        40 => neg(a, h),
-        51 => mul(a, b, h),
-        _ => stored(a),
     }
 }

@@ -1,5 +1,8 @@
-// The words of a call: as text, as numbers, and as names of files, which are read whole or replaced. Nothing is promised beyond safety and how
-// much of a buffer a file fills.
+// A call: its words, the numbers and files that they name, and what came of it. A file is read whole, or replaced. Nothing is promised beyond
+// safety and how much of a buffer a file fills.
+pub mod arguments;
+mod errors;
 pub mod files;
 pub mod numbers;
+pub mod results;
 pub mod text;

@@ -1,10 +1,11 @@
-// Numbers on the command line.
+// Numbers in a call.
 ghost use Prim.Native.Nat.{_≤_};
+use crate::text;
 
-// An unsigned 32-bit number, or none.
-pub enum Number {
-    Of(u32),
-    No,
+// An unsigned 32-bit number; 0 where there is none.
+pub struct Number {
+    pub n: u32,
+    pub good: bool,
 }
 
 // What a digit stands for; 10 for what is none.
@@ -30,47 +31,65 @@ fn grown(n: u64, digit: u64) -> u64
     if m < 4294967296 { m } else { 4294967296 }
 }
 
-fn small(n: u64) -> Number {
-    if n < 4294967296 {
-        return Number::Of(n as u32);
-    }
-    Number::No
-}
-
-// One decimal digit or more, and nothing else.
-fn parsed(text: &[u8]) -> Number {
+// What one decimal digit or more, and nothing else, stands for; 2 ^ 32 where it is no number or does not fit 32 bits.
+fn parsed(text: &[u8]) -> u64 {
     if text.len() == 0 {
-        return Number::No;
+        return 4294967296;
     }
     let mut n: u64 = 0;
     let mut i: usize = 0;
     while i < text.len() {
         let v = digit(text[i]);
         if v == 10 {
-            return Number::No;
+            return 4294967296;
         }
         n = grown(n, v);
         i += 1;
     }
-    small(n)
+    n
 }
 
-fn told(name: &[u8], n: Number) {
-    if let Number::No = n {
-        io::write_all(libc::STDERR_FILENO, name);
-        io::write_all(libc::STDERR_FILENO, b": no number from 0 to 4294967295\n");
+// The number that word i is. What is none is told, by the name that the usage gives it.
+pub fn word(call: &[u8], i: usize, name: &[u8], err: i32) -> Number {
+    let v = parsed(text::word(call, i));
+    if v < 4294967296 {
+        return Number {
+            n: v as u32,
+            good: true,
+        };
     }
+    io::write_all(err, name);
+    io::write_all(err, b": no number from 0 to 4294967295\n");
+    Number { n: 0, good: false }
 }
 
-// The number that a word of the call is. What is none is told, by the name that the usage gives it.
-pub fn word(i: usize, name: &[u8]) -> Number {
-    let mut text = io::buffer();
-    let n = os::arg(i, &mut text);
-    if os::errno() != 0 {
-        os::fail(name);
-        return Number::No;
+// Where the next number of a call is told to be none: nowhere, where one before it was.
+pub fn err_after(good: bool, err: i32) -> i32 {
+    if good { err } else { -1 }
+}
+
+// A block of D words and the pool in which it looks for a place. good: each of the four is a number.
+pub struct Asked {
+    pub start: u32,
+    pub length: u32,
+    pub pool_start: u32,
+    pub pool_end: u32,
+    pub good: bool,
+}
+
+// The words 2 to 5 of a call.
+pub fn block_and_pool(call: &[u8], err: i32) -> Asked {
+    let start = word(call, 2, b"START", err);
+    let length = word(call, 3, b"LENGTH", err_after(start.good, err));
+    let two = start.good & length.good;
+    let pool_start = word(call, 4, b"POOLSTART", err_after(two, err));
+    let three = two & pool_start.good;
+    let pool_end = word(call, 5, b"POOLEND", err_after(three, err));
+    Asked {
+        start: start.n,
+        length: length.n,
+        pool_start: pool_start.n,
+        pool_end: pool_end.n,
+        good: three & pool_end.good,
     }
-    let v = parsed(&text[..n]);
-    told(name, v);
-    v
 }

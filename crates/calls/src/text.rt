@@ -1,16 +1,63 @@
-// Bytes as text.
+// The words of a call, which is lent as bytes: word after word, each ended by a zero byte. Word 0 is the command.
+ghost use Prim.Native.Nat.{_≤_};
+ghost use lib.ListN.{length};
 
-// a and b hold the same bytes.
-pub fn same(a: &[u8], b: &[u8]) -> bool {
-    if a.len() != b.len() {
-        return false;
+// Where the word that begins at `from` ends: at its zero byte, or where the call ends.
+fn end_of(call: &[u8], from: usize) -> usize
+    requires { ⌜ from ≤ length (now call) ⌝ }
+    ensures { λ r. ⌜ (from ≤ r) × (r ≤ length (now (call .entry))) ⌝ }
+{
+    bytes::scan::find(call, from, call.len(), 0)
+}
+
+// Where the word after it begins, or the call ends.
+fn after(call: &[u8], from: usize) -> usize
+    requires { ⌜ from ≤ length (now call) ⌝ }
+    ensures { λ r. ⌜ r ≤ length (now (call .entry)) ⌝ }
+{
+    let end = end_of(call, from);
+    if end < call.len() {
+        return end + 1;
     }
-    let mut i = 0;
-    while i < a.len() {
-        if a[i] != b[i] {
-            return false;
-        }
+    end
+}
+
+fn start_of(call: &[u8], i: usize) -> usize
+    ensures { λ r. ⌜ r ≤ length (now (call .entry)) ⌝ }
+{
+    let mut at: usize = 0;
+    let mut k: usize = 0;
+    while k < i {
+        at = after(call, at);
+        k += 1;
+    }
+    at
+}
+
+// Word i; no byte where the call has no such word.
+pub fn word(call: &[u8], i: usize) -> &[u8] {
+    let from = start_of(call, i);
+    let to = end_of(call, from);
+    &call[from..to]
+}
+
+fn one_if(ends: bool) -> usize {
+    if ends { 1 } else { 0 }
+}
+
+// How many words the call has.
+pub fn count(call: &[u8]) -> usize {
+    let mut n: usize = 0;
+    let mut i: usize = 0;
+    while i < call.len() {
+        n = std::num::wrapping_add_usize(n, one_if(call[i] == 0));
         i += 1;
     }
-    true
+    n
+}
+
+// The call from word i on.
+pub fn rest(call: &[u8], i: usize) -> &[u8] {
+    let from = start_of(call, i);
+    &call[from..]
 }

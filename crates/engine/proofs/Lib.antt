@@ -1,4 +1,2 @@
--- A run under way, and its end.
-pub mod Ending
-pub mod Going
-pub mod ScanLaws
+-- A scan by its cases.
+mod ScanLaws

@@ -1,4 +1,2 @@
--- Which records end a run.
-pub mod Ends
--- A run from record 0 on.
+-- A scan of a program that the check accepts.
 pub mod Runs

@@ -1,23 +1,12 @@
--- A run from record 0 on, over a memory in which SM0 is as it is: a scan turns it on first.
+-- A scan of a program that the check accepts.
 use Prim.Native.Nat.{ℕ}
 use mathlib.Core.List.{List}
-use lib.ListN.{replicate}
 use Rattle.ec20.specs.Basics.{pick}
-use Rattle.ec20.specs.Code.{Program, programOf}
+use Rattle.ec20.specs.Code.{programOf}
 use Rattle.ec20.specs.Devices.{ec20}
 use Rattle.ec20.specs.Memory.{Memory}
-use Rattle.ec20.specs.Scan.{Scan, scan, runOf, runScan, reported, startState, fitting}
-use Rattle.ec20.specs.Step.{world}
-use Rattle.ec20.specs.declared.Machine.{Machine}
-use Rattle.ec20.specs.declared.Report.{Report}
+use Rattle.ec20.specs.Scan.{Scan, scan, runScan, fitting}
 use Rattle.ec20.specs.declared.Scanned.the-variants.{Refused}
-
-unfoldable pub ranFrom : Program → ℕ → ℕ → Memory → Scan
-ranFrom p e budget c = reported (runOf p e budget 0 (world c (replicate 8 0) (replicate 8 0) startState))
-
--- what a scan tells after k steps: the record stopped at, and the first error with its record
-abbrev pub reportOf : ℕ → Machine → Report
-reportOf k s = record { steps = k; stop = s .pc; error = s .error; at = s .at }
 
 -- a scan of an accepted program: "The scan adds 9."
 unfoldable pub fittingScan : List ℕ → ℕ → ℕ → Memory → Scan

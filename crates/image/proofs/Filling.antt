@@ -5,7 +5,7 @@ use mathlib.Core.Path.{_≡_, refl, sym, subst, _∙_}
 use native.Mathlib.Decide.{ℕ-discrete}
 use native.Mathlib.Omega.{arith}
 use lib.ListN.{getD, length, set, length-set}
-use lib.Seq.{getD-set-same, getD-set-other}
+use lib.Seq.{getD-set-same, getD-set-other, ext-getD}
 use Rattle.image.specs.Image.{Filled}
 
 -- of n entries the first k are f's
@@ -30,3 +30,8 @@ filling-more {z = z} {n = n} {k = k} {f = f} {l = l} v h s e =
 
 pub filling-done : {A : Type 0} {z : A} {n k : ℕ} {f : ℕ → A} {l : List A} → n ≤ k → Filling z n k f l → Filled z n f l
 filling-done h s = (s .size, λ i b. s .told i (omega arith))
+
+-- what is filled is fixed
+pub one-filled : {A : Type 0} (z : A) (n : ℕ) (f : ℕ → A) (l m : List A) → Filled z n f l → Filled z n f m → l ≡ m
+one-filled z n f l m a b =
+    ext-getD z l m (a .0 ∙ sym (b .0)) (λ i h. a .1 i (omega (arith, a .0)) ∙ sym (b .1 i (omega (arith, a .0))))

@@ -21,6 +21,10 @@ pub row-by-cells : (n : ℕ) → made (getD cells n []) ≡ rowOf n
 unfolding table rowOf cells cellsOf
 row-by-cells n = sym (List·getD-map made (map cellsOf table) n [])
 
+-- cell j of row n of a lent table that is the table: what the row says there
+pub cell : (rows : List (List ℕ)) (n j : ℕ) (of : Row → ℕ) → ((t : List ℕ) → getD t j 0 ≡ of (made t)) → rows ≡ cells → getD (getD rows n []) j 0 ≡ of (rowOf n)
+cell rows n j of says e = ap (λ (t : List (List ℕ)). getD (getD t n []) j 0) e ∙ says (getD cells n []) ∙ ap of (row-by-cells n)
+
 -- past the table
 pub row-past : (n : ℕ) → 56 ≤ n → unknown ≡ rowOf n
 unfolding table rowOf

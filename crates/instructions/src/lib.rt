@@ -1,5 +1,6 @@
 // The instruction table: one row for each instruction number, with the role, the width and the extent of each operand. Checker, scan, map
 // and mover take these from here and from nowhere else.
+ghost use Prim.Native.Nat.{_<_};
 ghost use Rattle.ec20.specs.Table.{rowOf};
 ghost use Rattle.instructions.specs.Cells.{cells};
 ghost use mathlib.Core.Path.{_≡_};
@@ -120,7 +121,7 @@ pub fn row_in(rows: &[[u8; 11]; 56], n: usize) -> Row
     }
 }
 
-// Of a row the form alone, which every step of a scan asks for.
+// Of a row the form alone.
 pub fn form_in(rows: &[[u8; 11]; 56], n: usize) -> u8
     requires { ⌜ now rows ≡ cells ⌝ }
     ensures { λ r. ⌜ r ≡ rowOf n .form ⌝ }
@@ -129,4 +130,33 @@ pub fn form_in(rows: &[[u8; 11]; 56], n: usize) -> u8
         return rows[n][1];
     }
     0
+}
+
+// What a step of a scan asks of a row. The numbers of an accepted program are all in the table, so that no test stands here.
+
+// The form.
+pub fn form_at(rows: &[[u8; 11]; 56], n: usize) -> u8
+    requires { ⌜ now rows ≡ cells ⌝ }
+    requires { ⌜ n < 56 ⌝ }
+    ensures { λ r. ⌜ r ≡ rowOf n .form ⌝ }
+{
+    rows[n][1]
+}
+
+// The width of the first operand in bits: of a word instruction and of a comparison the width of all its operands.
+pub fn width_at(rows: &[[u8; 11]; 56], n: usize) -> u8
+    requires { ⌜ now rows ≡ cells ⌝ }
+    requires { ⌜ n < 56 ⌝ }
+    ensures { λ r. ⌜ r ≡ rowOf n .first .width ⌝ }
+{
+    rows[n][3]
+}
+
+// The D words of the third operand: of DIV and DDIV those of quotient and remainder together.
+pub fn third_at(rows: &[[u8; 11]; 56], n: usize) -> u8
+    requires { ⌜ now rows ≡ cells ⌝ }
+    requires { ⌜ n < 56 ⌝ }
+    ensures { λ r. ⌜ r ≡ rowOf n .third .extent ⌝ }
+{
+    rows[n][10]
 }

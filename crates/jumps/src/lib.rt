@@ -139,7 +139,7 @@ pub fn next_places(f: &[u8], first: usize, count: usize) -> [usize; 2000]
 }
 
 // The places of the 128 labels as a run looks them up, from those that one walk over the records found.
-fn looked_up(table: &[usize; 129], f: &[u8], first: usize, count: usize) -> [usize; 128]
+fn looked_up(table: &[usize; 128], f: &[u8], first: usize, count: usize) -> [usize; 128]
     requires { ⌜ Held (length (now f)) first count ⌝ }
     requires { ⌜ Places (controlsOf (programIn (recordsFrom (now f) first count))) count (now table) ⌝ }
     ensures { λ r. ⌜ ((l : ℕ) → l < 128 → getD r l 0 ≡ orPast count (labelOf (controlsOf (programIn (recordsFrom (now (f .entry)) first count))) count l)) ⌝ }

@@ -9,7 +9,7 @@ use native.Mathlib.Omega.{arith}
 use borrow.Author.Tests.{eq-eqb, ne-eqb}
 use lib.Dec.{eqb}
 use lib.ListN.{getD, length, set, replicate, length-set, length-replicate}
-use lib.Seq.{getD-set-same, getD-set-other}
+use lib.Seq.{getD-set-same, getD-set-other, ext-getD}
 use Rattle.ec20.specs.Basics.{firstAt}
 use Rattle.ec20.specs.Control.{Controls, marks, labelOf}
 use Rattle.ec20.specs.Labels.{labelFault}
@@ -20,9 +20,9 @@ use Rattle.ec20.specs.declared.Found.the-variants.{At, Nowhere}
 use Rattle.labels.proofs.Laws.{passes, fails, none}
 use Rattle.labels.specs.Places.{oneMore, Places}
 
--- what a record sets, as the entry of the table: 128 for none of the labels
+-- s is the label of the table that a record sets; it sets none of them where s is 128 or more
 abbrev pub Slot : Controls → ℕ → ℕ → Type 0
-Slot code k s = (s ≤ 128) × ((l : ℕ) → l < 128 → marks l (code k) ≡ eqb s l)
+Slot code k s = (l : ℕ) → l < 128 → marks l (code k) ≡ eqb s l
 
 -- a place told by the table
 pub told-at : (x : Found) (t : ℕ) → t ≡ oneMore x → (t ≡ 0 → ⊥) → At (t - 1) ≡ x
@@ -37,7 +37,7 @@ told-none Nowhere t e h = refl
 
 -- the first LBL of each label among the records from k on
 pub record Filled (code : Controls) (count k : ℕ) (t : List ℕ) : Type 0 where
-  pub size : length t ≡ 129
+  pub size : length t ≡ 128
   pub below : k ≤ count
   pub told : (l : ℕ) → l < 128 → getD t l 0 ≡ oneMore (firstAt (λ j. marks l (code j)) (count - k) k)
 
@@ -46,40 +46,56 @@ zeros zero j = refl
 zeros (suc n) zero = refl
 zeros (suc n) (suc j) = zeros n j
 
-pub filled-none : (code : Controls) (count : ℕ) → Filled code count count (replicate 129 0)
+pub filled-none : (code : Controls) (count : ℕ) → Filled code count count (replicate 128 0)
 unfolding oneMore
 filled-none code count =
     record {
-      size = length-replicate {A = ℕ} 129 0;
+      size = length-replicate {A = ℕ} 128 0;
       below = omega arith;
-      told = λ l h. zeros 129 l ∙ ap oneMore (none (λ j. marks l (code j)) count count (omega arith));
+      told = λ l h. zeros 128 l ∙ ap oneMore (none (λ j. marks l (code j)) count count (omega arith));
     }
 
 module _ (code : Controls) (count k j s : ℕ) (t : List ℕ) (f : Filled code count k t) (before : j + 1 ≡ k) (slot : Slot code j s) where
-  more : (l : ℕ) → l < 128 → getD (set t s k) l 0 ≡ oneMore (firstAt (λ i. marks l (code i)) (count - j) j)
+  within : j < count
+  within = omega (arith, f .below)
+
+  -- a label that record j sets
+  set-there : (l : ℕ) → l < 128 → s ≡ l → k ≡ oneMore (firstAt (λ i. marks l (code i)) (count - j) j)
   unfolding oneMore
-  more l h =
-      let b : j < count = omega (arith, f .below) in
+  set-there l h e =
+      sym before ∙ ap oneMore (passes (λ i. marks l (code i)) j count {b = marks l (code j)} within refl (slot l h ∙ eq-eqb _ _ e))
+
+  -- a label that it does not set
+  set-later : (l : ℕ) → l < 128 → (s ≡ l → ⊥) → getD t l 0 ≡ oneMore (firstAt (λ i. marks l (code i)) (count - j) j)
+  set-later l h e =
+      f .told l h
+      ∙ (subst (λ (i : ℕ). oneMore (firstAt (λ i. marks l (code i)) (count - k) k) ≡ oneMore (firstAt (λ i. marks l (code i)) (count - i) i)) (sym before) refl
+      ∙ sym (ap oneMore (fails (λ i. marks l (code i)) j count {b = marks l (code j)} within refl (slot l h ∙ ne-eqb _ _ e))))
+
+  more : s < 128 → (l : ℕ) → l < 128 → getD (set t s k) l 0 ≡ oneMore (firstAt (λ i. marks l (code i)) (count - j) j)
+  more b l h =
       elim (ℕ-discrete s l) [
-        | yes e ↦ subst (λ (i : ℕ). getD (set t s k) i 0 ≡ k) e (getD-set-same t s k 0 (omega (arith, f .size, slot .0)))
-            ∙ (sym before ∙ ap oneMore (passes (λ i. marks l (code i)) j count {b = marks l (code j)} b refl (slot .1 l h ∙ eq-eqb _ _ e)))
-        | no e ↦ getD-set-other t s l k 0 (λ q. e (sym q))
-            ∙ (f .told l h
-            ∙ (subst (λ (i : ℕ). oneMore (firstAt (λ i. marks l (code i)) (count - k) k) ≡ oneMore (firstAt (λ i. marks l (code i)) (count - i) i)) (sym before) refl
-            ∙ sym (ap oneMore (fails (λ i. marks l (code i)) j count {b = marks l (code j)} b refl (slot .1 l h ∙ ne-eqb _ _ e)))))
+        | yes e ↦ subst (λ (i : ℕ). getD (set t s k) i 0 ≡ k) e (getD-set-same t s k 0 (omega (arith, f .size))) ∙ set-there l h e
+        | no e ↦ getD-set-other t s l k 0 (λ q. e (sym q)) ∙ set-later l h e
       ]
 
-  pub filled-more : Filled code count j (set t s k)
-  filled-more = record { size = length-set t s k ∙ f .size; below = omega (arith, f .below); told = more }
+  pub filled-more : s < 128 → Filled code count j (set t s k)
+  filled-more b = record { size = length-set t s k ∙ f .size; below = omega (arith, f .below); told = more b }
+
+  -- a record that sets none of the labels
+  pub filled-same : 128 ≤ s → Filled code count j t
+  filled-same b = record { size = f .size; below = omega (arith, f .below); told = λ l h. set-later l h (λ e. omega arith) }
 
 pub filled-all : (code : Controls) (count k : ℕ) (t : List ℕ) → Filled code count k t → k ≡ 0 → Places code count t
 unfolding Places
 filled-all code count k t f e l h =
     f .told l h ∙ subst (λ (i : ℕ). oneMore (firstAt (λ j. marks l (code j)) (count - i) i) ≡ oneMore (firstAt (λ j. marks l (code j)) count 0)) (sym e) (rw sub-zero refl)
 
--- 128 is no label of the table, nor is what is more
+-- the places fix the table: two of 128 entries that tell them are equal
+pub one-table : (code : Controls) (count : ℕ) (s t : List ℕ) → length s ≡ 128 → length t ≡ 128 → Places code count s → Places code count t → s ≡ t
+unfolding Places
+one-table code count s t a b p q = ext-getD 0 s t (a ∙ sym b) (λ i h. p i (omega (arith, a)) ∙ sym (q i (omega (arith, a))))
+
+-- 128 is no label of the table
 pub none-low : (l : ℕ) → l < 128 → false ≡ eqb 128 l
 none-low l b = sym (ne-eqb 128 l (λ z. omega arith))
-
-pub high-low : (m l : ℕ) → 128 ≤ m → l < 128 → eqb m l ≡ eqb 128 l
-high-low m l h b = ne-eqb m l (λ z. omega arith) ∙ none-low l b

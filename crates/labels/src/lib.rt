@@ -1,5 +1,5 @@
 // Labels and jumps, refusal 7; and the two searches, for the NEXT of a FOR and for a label.
-ghost use Prim.Native.Nat.{ℕ, _+_, _-_, _<_, _≤_, _^_};
+ghost use Prim.Native.Nat.{ℕ, _+_, _-_, _<_, _^_};
 ghost use Rattle.ec20.specs.Basics.{firstAt, refusedAt};
 ghost use Rattle.ec20.specs.Code.{programIn};
 ghost use Rattle.ec20.specs.Control.{controlsOf, turnOf, marks, findFrom, labelOf};
@@ -130,39 +130,41 @@ fn alike(a: Found, b: Found) -> bool
     }
 }
 
-// The label that record k sets, as the table's entry: 128 where it sets none of the 128 labels.
+// The label that record k sets, and 128, which is no label, where it sets none.
 fn slot(f: &[u8], first: usize, count: usize, k: usize) -> usize
     requires { ⌜ Held (length (now f)) first count ⌝ }
-    ensures { λ r. ⌜ (r ≤ 128) × ((l : ℕ) → l < 128 → marks l ((controlsOf (programIn (recordsFrom (now (f .entry)) first count))) k) ≡ eqb r l) ⌝ }
+    ensures { λ r. ⌜ ((l : ℕ) → l < 128 → marks l ((controlsOf (programIn (recordsFrom (now (f .entry)) first count))) k) ≡ eqb r l) ⌝ }
 {
     match decode::control_at(f, first, count, k) {
         Control::Plain => 128,
         Control::Opens(_) => 128,
         Control::Closes => 128,
         Control::Jumps(_) => 128,
-        Control::Marks(l) => { if l < 128 { l } else { 128 } }
+        Control::Marks(l) => l,
         Control::Ends => 128,
     }
 }
 
 // One more than the place of each of the 128 labels, 0 where it has none: from the last record back, so that the first LBL stays.
-pub fn places(f: &[u8], first: usize, count: usize) -> [usize; 129]
+pub fn places(f: &[u8], first: usize, count: usize) -> [usize; 128]
     requires { ⌜ Held (length (now f)) first count ⌝ }
     ensures { λ r. ⌜ Places (controlsOf (programIn (recordsFrom (now (f .entry)) first count))) count r ⌝ }
 {
-    let mut table = [0usize; 129];
+    let mut table = [0usize; 128];
     let mut k = count;
     while 0 < k {
         let j = k - 1;
         let s = slot(f, first, count, j);
-        table[s] = k;
+        if s < 128 {
+            table[s] = k;
+        }
         k = j;
     }
     table
 }
 
 // A label's place: that of the first 128 is looked up, any other's is searched.
-pub fn place(f: &[u8], first: usize, count: usize, table: &[usize; 129], l: usize) -> Found
+pub fn place(f: &[u8], first: usize, count: usize, table: &[usize; 128], l: usize) -> Found
     requires { ⌜ Held (length (now f)) first count ⌝ }
     requires { ⌜ Places (controlsOf (programIn (recordsFrom (now f) first count))) count (now table) ⌝ }
     ensures { λ r. ⌜ r ≡ labelOf (controlsOf (programIn (recordsFrom (now (f .entry)) first count))) count l ⌝ }
@@ -178,7 +180,7 @@ pub fn place(f: &[u8], first: usize, count: usize, table: &[usize; 129], l: usiz
 }
 
 // A CJ's label, its first LBL, must stand later and directly in the same loop body, in no loop inside it.
-fn misplaced(f: &[u8], first: usize, count: usize, table: &[usize; 129], k: usize, l: usize) -> bool
+fn misplaced(f: &[u8], first: usize, count: usize, table: &[usize; 128], k: usize, l: usize) -> bool
     requires { ⌜ Held (length (now f)) first count ⌝ }
     requires { ⌜ Places (controlsOf (programIn (recordsFrom (now f) first count))) count (now table) ⌝ }
     requires { ⌜ k < count ⌝ }
@@ -192,7 +194,7 @@ fn misplaced(f: &[u8], first: usize, count: usize, table: &[usize; 129], k: usiz
 }
 
 // A label set twice: the later LBL is not the first of its label.
-fn set_twice(f: &[u8], first: usize, count: usize, table: &[usize; 129], k: usize, l: usize) -> bool
+fn set_twice(f: &[u8], first: usize, count: usize, table: &[usize; 128], k: usize, l: usize) -> bool
     requires { ⌜ Held (length (now f)) first count ⌝ }
     requires { ⌜ Places (controlsOf (programIn (recordsFrom (now f) first count))) count (now table) ⌝ }
     ensures { λ r. ⌜ r ≡ labelFault (controlsOf (programIn (recordsFrom (now (f .entry)) first count))) count k (Marks l) ⌝ }
@@ -201,7 +203,7 @@ fn set_twice(f: &[u8], first: usize, count: usize, table: &[usize; 129], k: usiz
 }
 
 // Does record k set a label twice, or jump to one that doesn't stand where it must?
-fn label_fault(f: &[u8], first: usize, count: usize, table: &[usize; 129], k: usize) -> bool
+fn label_fault(f: &[u8], first: usize, count: usize, table: &[usize; 128], k: usize) -> bool
     requires { ⌜ Held (length (now f)) first count ⌝ }
     requires { ⌜ Places (controlsOf (programIn (recordsFrom (now f) first count))) count (now table) ⌝ }
     requires { ⌜ k < count ⌝ }
@@ -248,7 +250,7 @@ fn first_labelled(f: &[u8], first: usize, count: usize) -> usize
 }
 
 // The first record from `from` on that is refused, the labels' places being known.
-fn first_from(f: &[u8], first: usize, count: usize, table: &[usize; 129], from: usize) -> Judged
+fn first_from(f: &[u8], first: usize, count: usize, table: &[usize; 128], from: usize) -> Judged
     requires { ⌜ Held (length (now f)) first count ⌝ }
     requires { ⌜ Places (controlsOf (programIn (recordsFrom (now f) first count))) count (now table) ⌝ }
     ensures { λ r. ⌜ r ≡ refusedAt 7 (firstAt (λ j. labelFault (controlsOf (programIn (recordsFrom (now (f .entry)) first count))) count j ((controlsOf (programIn (recordsFrom (now (f .entry)) first count))) j)) (count - from) from) ⌝ }

@@ -9,16 +9,15 @@ pub struct Way {
     pub place: u32,
 }
 
-// A memory file of another size is lent as a D table of one word, which is refused by 9.
+// A memory file of another size is lent as a D table with no word, which is refused by 9.
 fn in_words(d: &mut [i16], size: usize, w: Way) -> Exchanged {
     if size == 16890 {
         return exchange::exchange(d, w.start, w.length, w.place);
     }
-    let mut other = [0i16; 1];
-    exchange::exchange(&mut other, w.start, w.length, w.place)
+    exchange::exchange(&mut d[0..0], w.start, w.length, w.place)
 }
 
-// The exchange in the memory of the image, which is then the one after it.
+// The exchange in the memory of the image, which is then the one after it. size: how many bytes the memory file has.
 pub fn in_image(image: &mut [u8; 16890], size: usize, w: Way) -> Exchanged {
     let mut x = tables::bits();
     let mut y = tables::bits();

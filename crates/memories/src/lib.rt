@@ -1,5 +1,4 @@
-// A scan of a program and an exchange of D words, each over the bytes of a memory file. Nothing is promised beyond safety: what both do to the tables
-// is proved of the crates engine and exchange, and which byte is which entry of the crate image.
+// The bytes of a memory file: zeros for its tables, and an exchange of D words in it. (A scan over it stands in the crate memory_scans.) Nothing is
+// promised beyond safety: what an exchange does to the table is proved of the crate exchange, and which byte is which entry of the crate image.
 pub mod exchanges;
-pub mod scans;
 pub mod tables;

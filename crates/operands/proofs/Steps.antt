@@ -2,7 +2,7 @@
 use mathlib.Core.Path.{_≡_, refl, sym, ap, ap₂, _∙_}
 use mathlib.Core.Bool.{Bool, true, false, _&&_, _||_}
 use mathlib.Core.List.{List}
-use Prim.Native.Nat.{ℕ, _*_, _^_, _<_, _≤_}
+use Prim.Native.Nat.{ℕ, _+_, _*_, _/_, _^_, _<_, _≤_}
 use native.Mathlib.Omega.{arith}
 use borrow.Author.Tests.{eq-eqb, ne-eqb, eqb-true}
 use lib.Dec.{eqb, leb}
@@ -15,7 +15,7 @@ use mir.Val.{toZ, ofZ, boolByte}
 use Rattle.ec20.specs.declared.Operand.{Operand}
 use Rattle.ec20.specs.declared.Outcome.{Outcome}
 use Rattle.ec20.specs.Basics.{pick, one-if}
-use Rattle.ec20.specs.Numbers.{half, signed}
+use Rattle.ec20.specs.Numbers.{bitsIn, half, signed}
 use Rattle.ec20.specs.Registers.{wordAt, numberAt, withNumber}
 use Rattle.ec20.specs.Bits.{packed, withBit, groupAt, withGroup}
 use Rattle.ec20.specs.Memory.{Memory, memory, groupBits, storeBit, constantAt, loadOf, storeOf, following, withSM}
@@ -116,24 +116,9 @@ module _ (o : Operand) (b : ℕ) (x y m sm t : List ℕ) (d tv : List ℤ) where
   unfolding storeBit
   bit-none k3 k4 = rw (ne-eqb _ _ k3, ne-eqb _ _ k4)
 
--- the flags put, after the values
-with-sm-by : (b : Bool) (r : Outcome) (c : Memory) → withSM c (pick b (withFlags r (c .sm)) (c .sm)) ≡ pick b (withSM c (withFlags r (c .sm))) c
-with-sm-by true r c = refl
-with-sm-by false r c = refl
-
--- an outcome that is no error, stored: what store, second and flags come to, for any tables that they do not hold
-module _ (w : ℕ) (o : Operand) (r : Outcome) (y m sm y1 m1 y2 m2 sm2 : List ℕ) (d d1 d2 : List ℤ) (z : ℤ)
-    (is : z ≡ r .value)
-    (first : (x sm t : List ℕ) (tv : List ℤ) → memory x y1 m1 sm t d1 tv ≡ storeOf w o z (memory x y m sm t d tv))
-    (then : (x sm t : List ℕ) (tv : List ℤ) → memory x y2 m2 sm t d2 tv ≡ pick (eqb (r .two) 1) (storeOf w (following w o) (r .second) (memory x y1 m1 sm t d1 tv)) (memory x y1 m1 sm t d1 tv))
-    (last : sm2 ≡ pick (eqb (r .flags) 1) (withFlags r sm) sm) where
-  pub all-stored : (x t : List ℕ) (tv : List ℤ) → memory x y2 m2 sm2 t d2 tv ≡ storeAll w o r (memory x y m sm t d tv)
-  unfolding storeAll
-  all-stored x t tv =
-      let c2 = then x sm t tv ∙ ap (λ (c : Memory). pick (eqb (r .two) 1) (storeOf w (following w o) (r .second) c) c) (first x sm t tv ∙ ap (λ (v : ℤ). storeOf w o v (memory x y m sm t d tv)) is) in
-      ap (λ (l : List ℕ). memory x y2 m2 l t d2 tv) last
-      ∙ with-sm-by (eqb (r .flags) 1) r (memory x y2 m2 sm t d2 tv)
-      ∙ ap (λ (c : Memory). pick (eqb (r .flags) 1) (withSM c (withFlags r (c .sm))) c) c2
+-- the target that follows, by the words of its width
+pub follows : (w : ℕ) (o : Operand) {words : ℕ} {n : Operand} → n ≡ record { kind = o .kind; group = o .group; value = o .value + words } → words ≡ bitsIn w / 16 → n ≡ following w o
+follows w o g e = g ∙ ap (λ (k : ℕ). record { kind = o .kind; group = o .group; value = o .value + k }) e
 
 -- the second value, where there is one
 module _ (w : ℕ) (o : Operand) (r : Outcome) (y m y1 m1 : List ℕ) (d d1 : List ℤ) where

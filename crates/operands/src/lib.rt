@@ -7,7 +7,7 @@ use ec20::Outcome;
 ghost use mathlib.Core.Path.{_≡_};
 ghost use mathlib.Core.Bool.{false, _&&_};
 ghost use mathlib.Core.List.{List};
-ghost use Prim.Native.Nat.{ℕ, _/_, _<_, _≤_, _^_};
+ghost use Prim.Native.Nat.{ℕ, _+_, _/_, _<_, _≤_, _^_};
 ghost use lib.Dec.{eqb};
 ghost use lib.IntN.{ℤ};
 ghost use lib.Signed.{mag};
@@ -17,7 +17,6 @@ ghost use Rattle.ec20.specs.Memory.{memory, loadBit, storeBit, constantAt, load
 ghost use Rattle.ec20.specs.Words.{withFlags};
 ghost use Rattle.ec20.specs.Flow.{coilOf};
 ghost use Rattle.ec20.specs.Timers.{unitsOf, oldOf, countedOf, contactIs, limitAt, timerOf};
-ghost use Rattle.arith.specs.Bounded.{Bounded};
 
 // "bit: X, Y, M, SM, T": whether the bit that the operand names is on; T contacts for all kinds but X, Y, M and SM.
 pub fn load_bit<'a>(
@@ -95,22 +94,24 @@ pub fn load(w: usize, o: Operand, x: &[u8], y: &[u8], m: &[u8], d: &[i16], tv: &
     }
 }
 
-// A source of 16 bits, for the comparisons: "two sources, 16-bit".
-pub fn load_word(o: Operand, x: &[u8], y: &[u8], m: &[u8], d: &[i16], tv: &[i16]) -> i64
+// A source of a comparison: "two sources, 16-bit", by the width that the table has. With one function for this and for `load` neither would be
+// inlined.
+pub fn compared(w: usize, o: Operand, x: &[u8], y: &[u8], m: &[u8], d: &[i16], tv: &[i16]) -> i64
     requires { ⌜ o .value < 2 ^ 32 ⌝ }
-    ensures { λ r. ⌜ ((sm t : List ℕ) → r ≡ loadOf 16 o (memory (now (x .entry)) (now (y .entry)) (now (m .entry)) sm t (now (d .entry)) (now (tv .entry)))) × (mag r < half 16) ⌝ }
+    ensures { λ r. ⌜ ((sm t : List ℕ) → r ≡ loadOf w o (memory (now (x .entry)) (now (y .entry)) (now (m .entry)) sm t (now (d .entry)) (now (tv .entry)))) × (mag r < half w) ⌝ }
 {
+    let v = o.value;
     let k = o.kind;
     match k {
-        7 => words::word_at(d, o.value),
-        1 => constant(16, o),
+        7 => words::number_at(d, v, w),
+        1 => constant(w, o),
         _ => {
             // Slices made here, as in `load`.
-            let nx = x.len();
-            let ny = y.len();
-            let nm = m.len();
-            let nt = tv.len();
-            other(16, o, &x[..nx], &y[..ny], &m[..nm], &tv[..nt])
+            let of_x = x.len();
+            let of_y = y.len();
+            let of_m = m.len();
+            let of_t = tv.len();
+            other(w, o, &x[..of_x], &y[..of_y], &m[..of_m], &tv[..of_t])
         }
     }
 }
@@ -140,34 +141,36 @@ pub fn store(w: usize, o: Operand, z: i64, y: &mut [u8], m: &mut [u8], d: &mut [
     store_group(w, o, z, y, m);
 }
 
-// How many words a number of w bits takes in D: one at 16, two at 32.
-fn words_in(w: usize) -> usize
-    ensures { λ r. ⌜ (r ≡ bitsIn w / 16) × (r ≤ 2) ⌝ }
-{
-    if w == 16 { 1 } else { 2 }
-}
-
-// "DIV: quotient, then remainder, two words; DDIV: four words": the target that follows, for the remainder.
-fn next(w: usize, o: Operand) -> Operand
-    requires { ⌜ o .value < 2 ^ 32 ⌝ }
-    ensures { λ r. ⌜ r ≡ following w o ⌝ }
+// The target so many words on.
+fn next(words: usize, o: Operand) -> Operand
+    requires { ⌜ (o .value < 2 ^ 32) × (words ≤ 2) ⌝ }
+    ensures { λ r. ⌜ r ≡ record { kind = o .kind; group = o .group; value = o .value + words } ⌝ }
 {
     Operand {
         kind: o.kind,
         group: o.group,
-        value: o.value + words_in(w),
+        value: o.value + words,
     }
 }
 
-// The second of two values, in the target that follows; nothing where there is one value only.
-pub fn second(w: usize, o: Operand, r: Outcome, y: &mut [u8], m: &mut [u8], d: &mut [i16])
-    requires { ⌜ (o .value < 2 ^ 32) × (mag (r .second) < half w) ⌝ }
+// "DIV: quotient, then remainder, two words; DDIV: four words": the second of two values, in the target that follows, which stands so many
+// words on; nothing where there is one value only.
+pub fn second(
+    w: usize,
+    o: Operand,
+    words: usize,
+    r: Outcome,
+    y: &mut [u8],
+    m: &mut [u8],
+    d: &mut [i16],
+)
+    requires { ⌜ (o .value < 2 ^ 32) × (mag (r .second) < half w) × (words ≡ bitsIn w / 16) ⌝ }
     ensures { λ _. ⌜ ((x sm t : List ℕ) (tv : List ℤ) → memory x (now (y .exit)) (now (m .exit)) sm t (now (d .exit)) tv ≡ pick (eqb (r .two) 1) (storeOf w (following w o) (r .second) (memory x (now (y .entry)) (now (m .entry)) sm t (now (d .entry)) tv)) (memory x (now (y .entry)) (now (m .entry)) sm t (now (d .entry)) tv)) ⌝ }
 {
     if r.two != 1 {
         return;
     }
-    let n = next(w, o);
+    let n = next(words, o);
     if n.kind == 7 {
         words::put_number(d, n.value, w, r.second);
         return;

@@ -41,9 +41,10 @@ module _ (p : Program) (e : ℕ) where
     unfolding execOf
     contact-arm g f = in-arm (world c l b s) g (same f)
 
-    pub compare-arm : {r : Machine} {n : ℕ} {o u : Operand} → p .code (s .pc) ≡ Compare n o u → r ≡ compareOf n (loadOf 16 o c) (loadOf 16 u c) s → world c l b r ≡ stepOf p e (world c l b s)
+    pub compare-arm : {r : Machine} {n w : ℕ} {o u : Operand} → p .code (s .pc) ≡ Compare n o u → w ≡ 16 → r ≡ compareOf n (loadOf w o c) (loadOf w u c) s → world c l b r ≡ stepOf p e (world c l b s)
     unfolding execOf
-    compare-arm g f = in-arm (world c l b s) g (same f)
+    compare-arm {n = n} {o = o} {u = u} g h f =
+        in-arm (world c l b s) g (same (f ∙ ap (λ (w : ℕ). compareOf n (loadOf w o c) (loadOf w u c) s) h))
 
     pub join-arm : {r : Machine} {n : ℕ} → p .code (s .pc) ≡ Join n → r ≡ joinOf n s → world c l b r ≡ stepOf p e (world c l b s)
     unfolding execOf

@@ -1,123 +1,104 @@
 -- The instruction due, by its number. Assumes nothing.
 use Prim.Native.Nat.{ℕ, _+_, _*_, _<_, _≤_}
-use mathlib.Core.Bool.{Bool, true, false, _&&_, _||_}
+use mathlib.Core.Bool.{Bool, true, false, not, _&&_, _||_}
 use mathlib.Core.Logic.{_⊎_, inl, inr}
 use mathlib.Core.List.{List}
 use mathlib.Core.Path.{_≡_, refl, sym, ap, _∙_}
 use native.Mathlib.Omega.{arith}
 use native.Mathlib.Decide.{ℕ-discrete, decLt}
-use borrow.Author.Tests.{lt-ltb, le-ltb, eqb-true, leb-true, lt-leb, le-leb}
+use borrow.Author.Tests.{lt-ltb, le-ltb, eqb-true, eq-eqb, ne-eqb, leb-true, lt-leb, le-leb}
 use lib.Dec.{eqb, leb}
 use lib.ListN.{getD}
 use Rattle.ec20.specs.Basics.{pick}
 use Rattle.ec20.specs.Code.{instrBy, codeOf, programIn}
 use Rattle.ec20.specs.Control.{controlOf, controlsOf, nextOf, orPast}
 use Rattle.ec20.specs.File.{recordsFrom, recordFrom, operandAt, u32At, byteAt}
-use Rattle.ec20.specs.Table.{table, rowOf}
+use Rattle.ec20.specs.Step.{widthOf}
+use Rattle.ec20.specs.Table.{table, rowOf, formNop, formCompare, formThree}
 use Rattle.ec20.specs.declared.Row.{Row}
-use Rattle.ec20.proofs.Tests.{both, differ}
-use Rattle.instructions.proofs.Rows.{everyBelow, at-every, row-past}
+use Rattle.ec20.proofs.Tests.{differ}
+use Rattle.instructions.proofs.Keys.{None, beside, past}
+use Rattle.instructions.proofs.Rows.{everyBelow, at-every}
 use Rattle.ec20.specs.declared.Instr.{Instr}
 use Rattle.ec20.specs.declared.Instr.the-variants.{Nop, Contact, Compare, Join, Branch, Coil, Timer, For, Next, Jump, Label, End, Word}
 use Rattle.ec20.specs.declared.Machine.{Machine}
 use Rattle.ec20.specs.declared.Operand.{Operand}
 use Rattle.step.specs.Ready.{Running, Due, Left}
-use Rattle.actions.specs.Done.{isWord, secondOf, targetOf}
+use Rattle.outcomes.specs.Done.{WordAt, secondOf, targetOf}
 
 -- past the last record there is END
 pub ended : (f : List ℕ) (first count k : ℕ) → count ≤ k → codeOf (recordsFrom f first count) k ≡ End
 unfolding codeOf
 ended f first count k h = rw (le-ltb _ _ h) refl
 
--- at least m, and not m
-skip : (m k : ℕ) → m ≤ k → (k ≡ m → ⊥) → m + 1 ≤ k
-skip m k a e = omega arith
+-- what the match of `exec` leaves, by its last arm
+pub left-of : (B : Type 0) (n : ℕ) → None (None B 0 15 n) 18 6 n → Left n
+left-of B n h =
+    record {
+      above = past B 0 15 n (beside (None B 0 15 n) 18 6 n h) (omega arith);
+      apart = elim (decLt n 18) [ yes l ↦ inl l | no l ↦ inr (past (None B 0 15 n) 18 6 n h (omega arith)) ];
+    }
 
--- none of 0 to 14
-pub fifteen : (k : ℕ) → (k ≡ 0 → ⊥) → (k ≡ 1 → ⊥) → (k ≡ 2 → ⊥) → (k ≡ 3 → ⊥) → (k ≡ 4 → ⊥) → (k ≡ 5 → ⊥) → (k ≡ 6 → ⊥) → (k ≡ 7 → ⊥) → (k ≡ 8 → ⊥) → (k ≡ 9 → ⊥) → (k ≡ 10 → ⊥) → (k ≡ 11 → ⊥) → (k ≡ 12 → ⊥) → (k ≡ 13 → ⊥) → (k ≡ 14 → ⊥) → 15 ≤ k
-fifteen k n0 n1 n2 n3 n4 n5 n6 n7 n8 n9 n10 n11 n12 n13 n14 =
-    let h1 = skip 0 k (omega arith) n0 in
-    let h2 = skip 1 k h1 n1 in
-    let h3 = skip 2 k h2 n2 in
-    let h4 = skip 3 k h3 n3 in
-    let h5 = skip 4 k h4 n4 in
-    let h6 = skip 5 k h5 n5 in
-    let h7 = skip 6 k h6 n6 in
-    let h8 = skip 7 k h7 n7 in
-    let h9 = skip 8 k h8 n8 in
-    let h10 = skip 9 k h9 n9 in
-    let h11 = skip 10 k h10 n10 in
-    let h12 = skip 11 k h11 n11 in
-    let h13 = skip 12 k h12 n12 in
-    let h14 = skip 13 k h13 n13 in
-    skip 14 k h14 n14
+-- The forms of the table, computed over its rows: none is above 14; a comparison is of 16 bits; what the match of `exec` leaves and is
+-- neither a word instruction nor a comparison is no instruction.
+formWithin : ℕ → Bool
+formWithin n = leb (rowOf n .form) 14
 
--- none of 18 to 23
-pub apart : (k : ℕ) → (k ≡ 18 → ⊥) → (k ≡ 19 → ⊥) → (k ≡ 20 → ⊥) → (k ≡ 21 → ⊥) → (k ≡ 22 → ⊥) → (k ≡ 23 → ⊥) → (k < 18) ⊎ (24 ≤ k)
-apart k n18 n19 n20 n21 n22 n23 =
-    elim (decLt k 18) [
-      | yes h ↦ inl h
-      | no h ↦
-          let h18 : 18 ≤ k = omega arith in
-          let h19 = skip 18 k h18 n18 in
-          let h20 = skip 19 k h19 n19 in
-          let h21 = skip 20 k h20 n20 in
-          let h22 = skip 21 k h21 n21 in
-          let h23 = skip 22 k h22 n22 in
-          inr (skip 23 k h23 n23)
-    ]
+comparedWide : ℕ → Bool
+comparedWide n = not (eqb (rowOf n .form) formCompare) || eqb (widthOf n) 16
 
--- the numbers that the match leaves, by the form that the table gives them
 leftForm : ℕ → Bool
 leftForm n =
-    leb n 14 || (leb 18 n && leb n 23)
-    || pick (isWord n) (leb 12 (rowOf n .form) && leb (rowOf n .form) 14)
-    (pick (leb 15 n && leb n 17) (eqb (rowOf n .form) 5) (eqb (rowOf n .form) 0))
+    (leb n 14 || (leb 18 n && leb n 23)) || (leb formThree (rowOf n .form) || eqb (rowOf n .form) formCompare) || eqb (rowOf n .form) formNop
 
-every : everyBelow leftForm 56 ≡ true
+every-within : everyBelow formWithin 56 ≡ true
+unfolding formWithin rowOf table
+every-within = refl
+
+every-compared : everyBelow comparedWide 56 ≡ true
+unfolding comparedWide rowOf table
+every-compared = refl
+
+every-left : everyBelow leftForm 56 ≡ true
 unfolding leftForm rowOf table
-every = refl
+every-left = refl
 
--- a number from 12 to 14
-three : (k : ℕ) → (leb 12 k && leb k 14) ≡ true → (k ≡ 12) ⊎ (k ≡ 13) ⊎ (k ≡ 14)
-three k q =
-    let a : 12 ≤ k = leb-true 12 k (both (leb 12 k) (leb k 14) q .0) in
-    let b : k ≤ 14 = leb-true k 14 (both (leb 12 k) (leb k 14) q .1) in
+-- a word instruction has one of three forms
+three : (n : ℕ) → n < 56 → formThree ≤ rowOf n .form → (rowOf n .form ≡ 12) ⊎ (rowOf n .form ≡ 13) ⊎ (rowOf n .form ≡ 14)
+unfolding formWithin
+three n h a =
+    let k : ℕ = rowOf n .form in
+    let b : k ≤ 14 = leb-true _ 14 (at-every formWithin 56 every-within n h) in
     elim (ℕ-discrete k 12) [
       | yes e ↦ inl e
       | no e ↦ elim (ℕ-discrete k 13) [ yes g ↦ inr (inl g) | no g ↦ inr (inr (omega arith)) ]
     ]
 
--- a test by cases, where the case is known
-yes-of : (b x y : Bool) → b ≡ true → pick b x y ≡ true → x ≡ true
-yes-of true x y e h = h
-yes-of false x y e h = differ (sym e)
-
-no-of : (b x y : Bool) → b ≡ false → pick b x y ≡ true → y ≡ true
-no-of true x y e h = differ e
-no-of false x y e h = h
+-- a comparison is of 16 bits
+pub sixteen : (n : ℕ) → n < 56 → rowOf n .form ≡ 5 → widthOf n ≡ 16
+unfolding comparedWide
+sixteen n h e = eqb-true _ _ (second-of (eqb (rowOf n .form) formCompare) (eq-eqb _ _ e) (at-every comparedWide 56 every-compared n h))
+  where
+    second-of : (p : Bool) {q : Bool} → p ≡ true → (not p || q) ≡ true → q ≡ true
+    second-of true g h = h
+    second-of false g h = differ (sym g)
 
 last-of : (a b : Bool) {c : Bool} → a ≡ false → b ≡ false → (a || b || c) ≡ true → c ≡ true
 last-of true b e f h = differ e
 last-of false true e f h = differ f
 last-of false false e f h = h
 
-outside : (n : ℕ) → (n < 18) ⊎ (24 ≤ n) → (leb 18 n && leb n 23) ≡ false
-outside n (inl q) = rw (lt-leb 18 n q) refl
-outside n (inr q) = rw (lt-leb n 23 (omega arith), le-leb 18 n (omega arith)) refl
+outside : (n : ℕ) → 15 ≤ n → (n < 18) ⊎ (24 ≤ n) → (leb n 14 || (leb 18 n && leb n 23)) ≡ false
+outside n l (inl q) = rw (lt-leb n 14 l, lt-leb 18 n q) refl
+outside n l (inr q) = rw (lt-leb n 14 l, lt-leb n 23 q, le-leb 18 n (omega arith)) refl
 
--- a number of the table that the match leaves
-of-left : (n : ℕ) → Left n → n < 56 → pick (isWord n) (leb 12 (rowOf n .form) && leb (rowOf n .form) 14) (pick (leb 15 n && leb n 17) (eqb (rowOf n .form) 5) (eqb (rowOf n .form) 0)) ≡ true
+-- the others are no instruction
+none : (n : ℕ) → n < 56 → Left n → rowOf n .form < 12 → (rowOf n .form ≡ 5 → ⊥) → rowOf n .form ≡ 0
 unfolding leftForm
-of-left n l h =
-    last-of (leb n 14) (leb 18 n && leb n 23) (lt-leb n 14 (omega (arith, l .above))) (outside n (l .apart)) (at-every leftForm 56 every n h)
-
--- past the table there is no word
-past : (n : ℕ) → 56 ≤ n → isWord n ≡ false
-past n h = rw (lt-leb n 40 (omega arith), lt-leb n 55 (omega arith), le-leb 32 n (omega arith), le-leb 48 n (omega arith)) refl
-
-tabled : (n : ℕ) → isWord n ≡ true → n < 56
-tabled n w = elim (decLt n 56) [ yes h ↦ h | no h ↦ differ (sym w ∙ past n (omega arith)) ]
+none n h l a b =
+    let k : ℕ = rowOf n .form in
+    let neither : (leb formThree k || eqb k formCompare) ≡ false = rw (lt-leb formThree k a, ne-eqb k formCompare b) refl in
+    eqb-true _ _ (last-of (leb n 14 || (leb 18 n && leb n 23)) (leb formThree k || eqb k formCompare) (outside n (l .above) (l .apart)) neither (at-every leftForm 56 every-left n h))
 
 inside : (f : List ℕ) (first count k : ℕ) → k < count → codeOf (recordsFrom f first count) k ≡ instrBy (rowOf (recordFrom f (first + 20 * k) .number) .form) (recordFrom f (first + 20 * k))
 unfolding codeOf
@@ -187,33 +168,29 @@ module _ {f : List ℕ} {first count n i : ℕ} {s : Machine} (d : Due f first c
   unfolding instrBy
   nop q g = at q g ∙ refl
 
-  pub word : Left n → isWord n ≡ true → codeOf (recordsFrom f first count) (s .pc) ≡ Word n (operandAt f (i + 2)) (secondOf f n i) (targetOf f n i)
+  pub word : formThree ≤ rowOf n .form → codeOf (recordsFrom f first count) (s .pc) ≡ Word n (operandAt f (i + 2)) (secondOf f n i) (targetOf f n i)
   unfolding instrBy recordFrom
-  word l w =
-      elim (three (rowOf n .form) (yes-of (isWord n) _ _ w (of-left n l (tabled n w)))) [
+  word l =
+      elim (three n (d .known) l) [
         | inl k ↦ code ∙ rw (k, ← (d .number)) refl
         | inr (inl k) ↦ code ∙ rw (k, ← (d .number)) refl
         | inr (inr k) ↦ code ∙ rw (k, ← (d .number)) refl
       ]
 
-  pub compare : {o u : Operand} → Left n → isWord n ≡ false → (leb 15 n && leb n 17) ≡ true → o ≡ operandAt f (i + 2) → u ≡ operandAt f (i + 8) → codeOf (recordsFrom f first count) (s .pc) ≡ Compare n o u
-  unfolding instrBy recordFrom operandAt
-  compare l w h a b =
-      let g : rowOf n .form ≡ 5 = eqb-true _ _ (yes-of (leb 15 n && leb n 17) _ _ h (no-of (isWord n) _ _ w (of-left n l (omega (arith, leb-true n 17 (both (leb 15 n) (leb n 17) h .1)))))) in
-      code ∙ rw (g, ← (d .number), a, b) refl
+  -- as the word instructions ask it
+  pub word-at : formThree ≤ rowOf n .form → WordAt (widthOf n) n i f
+  word-at l = record { known = d .known; form = l; width = refl; near = d .near; room = d .room }
 
-  pub plain : Left n → isWord n ≡ false → (leb 15 n && leb n 17) ≡ false → codeOf (recordsFrom f first count) (s .pc) ≡ Nop
+  pub compare : {o u : Operand} → rowOf n .form ≡ 5 → o ≡ operandAt f (i + 2) → u ≡ operandAt f (i + 8) → codeOf (recordsFrom f first count) (s .pc) ≡ Compare n o u
+  unfolding instrBy recordFrom operandAt
+  compare g a b = code ∙ rw (g, ← (d .number), a, b) refl
+
+  pub plain : Left n → rowOf n .form < 12 → (rowOf n .form ≡ 5 → ⊥) → codeOf (recordsFrom f first count) (s .pc) ≡ Nop
   unfolding instrBy
-  plain l w h =
-      let g : rowOf n .form ≡ 0 =
-      elim (decLt n 56) [
-        | yes q ↦ eqb-true _ _ (no-of (leb 15 n && leb n 17) _ _ h (no-of (isWord n) _ _ w (of-left n l q)))
-        | no q ↦ sym (ap (λ (r : Row). r .form) (row-past n (omega arith)))
-      ] in
-      code ∙ rw g refl
+  plain l w h = code ∙ rw (none n (d .known) l w h) refl
 
   -- a FOR's NEXT is looked up
-  pub next-there : {nexts places : List ℕ} {e o k : ℕ} → Running f first count nexts places e → n ≡ k → rowOf k .form ≡ 7 → o ≡ u32At f (i + 4)
+  pub next-there : {rows : List (List ℕ)} {nexts places : List ℕ} {e o k : ℕ} → Running rows f first count nexts places e → n ≡ k → rowOf k .form ≡ 7 → o ≡ u32At f (i + 4)
       → getD nexts (s .pc) 0 ≡ orPast count (nextOf (controlsOf (programIn (recordsFrom f first count))) count (s .pc))
   unfolding controlOf
   next-there r q g a = r .prepared .next (s .pc) _ (d .here) (ap controlOf (opens q g a))

@@ -8,21 +8,29 @@ use Rattle.ec20.specs.Code.{programIn}
 use Rattle.ec20.specs.Control.{controlsOf}
 use Rattle.ec20.specs.File.{recordsFrom, byteAt}
 use Rattle.ec20.specs.declared.Machine.{Machine}
+use Rattle.instructions.specs.Cells.{cells}
 use Rattle.jumps.specs.Prepared.{Prepared}
 use Rattle.records.specs.Ranges.{Held}
 
--- of a run: `count` records from the byte `first` on, the places of NEXT and labels, the elapsed units
-pub record Running (f : List ℕ) (first count : ℕ) (nexts places : List ℕ) (e : ℕ) : Type 0 where
+-- the numbers of the `count` records from the byte `first` on are in the instruction table
+abbrev pub Known : List ℕ → ℕ → ℕ → Type 0
+Known f first count = (k : ℕ) → k < count → byteAt f (first + 20 * k) < 56
+
+-- of a run: the instruction table, `count` records from the byte `first` on, whose numbers the instruction table has, the places of NEXT and labels, the elapsed units
+pub record Running (rows : List (List ℕ)) (f : List ℕ) (first count : ℕ) (nexts places : List ℕ) (e : ℕ) : Type 0 where
+  pub table : rows ≡ cells
   pub held : Held (length f) first count
   pub prepared : Prepared (controlsOf (programIn (recordsFrom f first count))) count nexts places
   pub near : (k : ℕ) → getD nexts k 0 ≤ 2000
+  pub known : Known f first count
   pub elapsed : e ≤ 32767
 
--- of the record due: it is one of the program's, it stands at byte i, and its number is n
+-- of the record due: it is one of the program's, it stands at byte i, and its number is n, which the table has
 pub record Due (f : List ℕ) (first count n i : ℕ) (s : Machine) : Type 0 where
   pub here : s .pc < count
   pub at : i ≡ first + 20 * s .pc
   pub number : n ≡ byteAt f i
+  pub known : n < 56
   pub room : i + 20 ≤ length f
   pub near : i < 50000
   pub depth : s .depth ≤ 8

@@ -5,6 +5,7 @@ ghost use Rattle.ec20.specs.Memory.{memory, loadOf};
 ghost use Rattle.ec20.specs.Code.{programIn};
 ghost use Rattle.ec20.specs.File.{recordsFrom};
 ghost use Rattle.ec20.specs.Step.{world, stepOf};
+ghost use Rattle.instructions.specs.Cells.{cells};
 ghost use Rattle.step.specs.Ready.{Running, Due, Left};
 ghost use Rattle.ec20.specs.Timers.{timerOf};
 ghost use lib.IntN.{ℤ};
@@ -13,8 +14,9 @@ ghost use mathlib.Core.Path.{_≡_};
 use ec20::Machine;
 use ec20::Operand;
 
-// LD=, LD>, LD<: the first source against the second.
+// LD=, LD>, LD<: the first source against the second, of w bits each.
 fn compare<'a>(
+    w: usize,
     n: usize,
     a: Operand,
     b: Operand,
@@ -26,10 +28,10 @@ fn compare<'a>(
     s: Machine,
 ) -> Machine
     requires { ⌜ (s .pc < 2 ^ 63) × (a .value < 2 ^ 32) × (b .value < 2 ^ 32) ⌝ }
-    ensures { λ q. ⌜ ((sm t : List ℕ) → q ≡ compareOf n (loadOf 16 a (memory (now (x .entry)) (now (y .entry)) (now (m .entry)) sm t (now (d .entry)) (now (tv .entry)))) (loadOf 16 b (memory (now (x .entry)) (now (y .entry)) (now (m .entry)) sm t (now (d .entry)) (now (tv .entry)))) s) ⌝ }
+    ensures { λ q. ⌜ ((sm t : List ℕ) → q ≡ compareOf n (loadOf w a (memory (now (x .entry)) (now (y .entry)) (now (m .entry)) sm t (now (d .entry)) (now (tv .entry)))) (loadOf w b (memory (now (x .entry)) (now (y .entry)) (now (m .entry)) sm t (now (d .entry)) (now (tv .entry)))) s) ⌝ }
 {
-    let u = operands::load_word(a, x, y, m, d, tv);
-    let v = operands::load_word(b, x, y, m, d, tv);
+    let u = operands::compared(w, a, x, y, m, d, tv);
+    let v = operands::compared(w, b, x, y, m, d, tv);
     flow::compare(n, u, v, s)
 }
 
@@ -58,8 +60,9 @@ fn timer(
     flow::act(s)
 }
 
-// What the match of `exec` leaves: word instructions, comparisons, and numbers that the table does not have.
+// What the match of `exec` leaves: word instructions, comparisons, and numbers of no instruction. The table says which it is, and its width.
 fn rest(
+    rows: &[[u8; 11]; 56],
     n: usize,
     i: usize,
     f: &[u8],
@@ -76,15 +79,18 @@ fn rest(
 ) -> Machine
     requires { ⌜ Due (now f) first count n i s ⌝ }
     requires { ⌜ Left n ⌝ }
+    requires { ⌜ now rows ≡ cells ⌝ }
     ensures { λ q. ⌜ ((t left back : List ℕ) → world (memory (now (x .entry)) (now (y .exit)) (now (m .exit)) (now (sm .exit)) t (now (d .exit)) (now (tv .entry))) left back q ≡ stepOf (programIn (recordsFrom (now (f .entry)) first count)) e (world (memory (now (x .entry)) (now (y .entry)) (now (m .entry)) (now (sm .entry)) t (now (d .entry)) (now (tv .entry))) left back s)) ⌝ }
 {
-    if actions::is_word(n) {
-        return actions::word(n, i, f, x, y, m, sm, d, tv, s);
+    let form = instructions::form_at(rows, n);
+    if form >= 12 {
+        return actions::word(rows, n, i, f, x, y, m, sm, d, tv, s);
     }
-    if (15 <= n) & (n <= 17) {
+    if form == 5 {
+        let w = records::wide(instructions::width_at(rows, n));
         let a = records::operand_at(f, i + 2);
         let b = records::operand_at(f, i + 8);
-        return compare(n, a, b, x, y, m, d, tv, s);
+        return compare(w, n, a, b, x, y, m, d, tv, s);
     }
     flow::go_on(s)
 }
@@ -92,6 +98,7 @@ fn rest(
 // The record due, at byte i of the file, of number n. Each number has an arm of its own, so that the compiler makes one jump of the match and
 // knows the number in each arm.
 fn exec(
+    rows: &[[u8; 11]; 56],
     n: usize,
     i: usize,
     f: &[u8],
@@ -111,7 +118,7 @@ fn exec(
     back: &mut [usize; 8],
     s: Machine,
 ) -> Machine
-    requires { ⌜ Running (now f) first count (now nexts) (now places) e ⌝ }
+    requires { ⌜ Running (now rows) (now f) first count (now nexts) (now places) e ⌝ }
     requires { ⌜ Due (now f) first count n i s ⌝ }
     ensures { λ q. ⌜ world (memory (now (x .entry)) (now (y .exit)) (now (m .exit)) (now (sm .exit)) (now (t .exit)) (now (d .exit)) (now (tv .exit))) (now (left .exit)) (now (back .exit)) q ≡ stepOf (programIn (recordsFrom (now (f .entry)) first count)) e (world (memory (now (x .entry)) (now (y .entry)) (now (m .entry)) (now (sm .entry)) (now (t .entry)) (now (d .entry)) (now (tv .entry))) (now (left .entry)) (now (back .entry)) s) ⌝ }
 {
@@ -162,12 +169,13 @@ fn exec(
         21 => jumps::jump(f, first, count, places, records::u32_at(f, i + 4), s),
         22 => flow::go_to(s, s.pc + 1, s.depth),
         23 => flow::stop(s),
-        _ => rest(n, i, f, first, count, e, x, y, m, sm, d, tv, s),
+        _ => rest(rows, n, i, f, first, count, e, x, y, m, sm, d, tv, s),
     }
 }
 
 // One step: the record due is executed; past the last record there is END.
 pub fn step(
+    rows: &[[u8; 11]; 56],
     f: &[u8],
     first: usize,
     count: usize,
@@ -185,7 +193,7 @@ pub fn step(
     back: &mut [usize; 8],
     s: Machine,
 ) -> Machine
-    requires { ⌜ Running (now f) first count (now nexts) (now places) e ⌝ }
+    requires { ⌜ Running (now rows) (now f) first count (now nexts) (now places) e ⌝ }
     requires { ⌜ (s .depth ≤ 8) × (s .pc < 2 ^ 63) ⌝ }
     ensures { λ q. ⌜ world (memory (now (x .entry)) (now (y .exit)) (now (m .exit)) (now (sm .exit)) (now (t .exit)) (now (d .exit)) (now (tv .exit))) (now (left .exit)) (now (back .exit)) q ≡ stepOf (programIn (recordsFrom (now (f .entry)) first count)) e (world (memory (now (x .entry)) (now (y .entry)) (now (m .entry)) (now (sm .entry)) (now (t .entry)) (now (d .entry)) (now (tv .entry))) (now (left .entry)) (now (back .entry)) s) ⌝ }
 {
@@ -195,6 +203,7 @@ pub fn step(
     let i = first + 20 * s.pc;
     let n = records::wide(f[i]);
     exec(
+        rows,
         n,
         i,
         f,

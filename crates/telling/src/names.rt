@@ -2,79 +2,50 @@
 use crate::out;
 use ec20::Frame;
 
-// An instruction that the table does not have.
-fn unknown(fd: i32, number: usize) {
-    out::say_to(fd, b"number ");
-    out::number_to(fd, number);
+// Name k of a list in which each takes four bytes; no byte where the list has none.
+fn nth(names: &[u8], k: usize) -> &[u8] {
+    if k < names.len() / 4 {
+        let from = 4 * k;
+        let to = from + 4;
+        return &names[from..to];
+    }
+    &names[..0]
 }
 
-// Instructions on 32 bits.
-fn wide_word(fd: i32, number: usize) {
-    match number {
-        48 => out::say_to(fd, b"DMOV"),
-        49 => out::say_to(fd, b"DADD"),
-        50 => out::say_to(fd, b"DSUB"),
-        51 => out::say_to(fd, b"DMUL"),
-        52 => out::say_to(fd, b"DDIV"),
-        53 => out::say_to(fd, b"DSQT"),
-        54 => out::say_to(fd, b"DINC"),
-        55 => out::say_to(fd, b"DDEC"),
-        _ => unknown(fd, number),
-    }
+// The name, without the blanks that fill it.
+fn say_filled(to: i32, name: &[u8]) -> i32 {
+    let n = bytes::scan::find(name, 0, name.len(), b' ');
+    out::say(to, &name[..n])
 }
 
-// Instructions on 16 bits.
-fn word(fd: i32, number: usize) {
-    match number {
-        32 => out::say_to(fd, b"MOV"),
-        33 => out::say_to(fd, b"ADD"),
-        34 => out::say_to(fd, b"SUB"),
-        35 => out::say_to(fd, b"DIV"),
-        36 => out::say_to(fd, b"SQT"),
-        37 => out::say_to(fd, b"INC"),
-        38 => out::say_to(fd, b"DEC"),
-        39 => out::say_to(fd, b"VABS"),
-        40 => out::say_to(fd, b"NEG"),
-        _ => wide_word(fd, number),
+// The k-th name of a list, for an instruction's number; that number where the table has no such instruction.
+fn say_nth(to: i32, names: &[u8], k: usize, number: usize) -> i32 {
+    let name = nth(names, k);
+    if name.len() == 0 {
+        return out::counted(to, b"number ", number);
     }
+    say_filled(to, name)
 }
 
-// Coils, comparisons, the timer, loops and labels.
-fn action(fd: i32, number: usize) {
-    match number {
-        12 => out::say_to(fd, b"OUT"),
-        13 => out::say_to(fd, b"SET"),
-        14 => out::say_to(fd, b"RST"),
-        15 => out::say_to(fd, b"LD="),
-        16 => out::say_to(fd, b"LD>"),
-        17 => out::say_to(fd, b"LD<"),
-        18 => out::say_to(fd, b"TON"),
-        19 => out::say_to(fd, b"FOR"),
-        20 => out::say_to(fd, b"NEXT"),
-        21 => out::say_to(fd, b"CJ"),
-        22 => out::say_to(fd, b"LBL"),
-        23 => out::say_to(fd, b"END"),
-        _ => word(fd, number),
+// The instructions 0 to 23, those on 16 bits from 32 on and those on 32 bits from 48 on.
+fn say_instruction(to: i32, number: usize) -> i32 {
+    if number < 32 {
+        return say_nth(
+            to,
+            b"NOP LD  LDI AND ANI OR  ORI ANB ORB MPS MRD MPP OUT SET RST LD= LD> LD< TON FOR NEXTCJ  LBL END ",
+            number,
+            number,
+        );
     }
-}
-
-// Contacts and the stacks; then the others.
-fn name(fd: i32, number: usize) {
-    match number {
-        0 => out::say_to(fd, b"NOP"),
-        1 => out::say_to(fd, b"LD"),
-        2 => out::say_to(fd, b"LDI"),
-        3 => out::say_to(fd, b"AND"),
-        4 => out::say_to(fd, b"ANI"),
-        5 => out::say_to(fd, b"OR"),
-        6 => out::say_to(fd, b"ORI"),
-        7 => out::say_to(fd, b"ANB"),
-        8 => out::say_to(fd, b"ORB"),
-        9 => out::say_to(fd, b"MPS"),
-        10 => out::say_to(fd, b"MRD"),
-        11 => out::say_to(fd, b"MPP"),
-        _ => action(fd, number),
+    if number < 48 {
+        return say_nth(
+            to,
+            b"MOV ADD SUB DIV SQT INC DEC VABSNEG ",
+            number - 32,
+            number,
+        );
     }
+    say_nth(to, b"DMOVDADDDSUBDMULDDIVDSQTDINCDDEC", number - 48, number)
 }
 
 // The instruction number of a record, where the first begins at the byte `first`; 256 where there is no such record.
@@ -100,11 +71,12 @@ fn number_of(f: &[u8], record: usize) -> usize {
 }
 
 // " (DDIV)" for a record of the file; nothing where it has no such record.
-pub fn say_name(fd: i32, f: &[u8], record: usize) {
+pub fn say_name(to: i32, f: &[u8], record: usize) -> i32 {
     let number = number_of(f, record);
-    if number < 256 {
-        out::say_to(fd, b" (");
-        name(fd, number);
-        out::say_to(fd, b")");
+    if number > 255 {
+        return to;
     }
+    let to = out::say(to, b" (");
+    let to = say_instruction(to, number);
+    out::say(to, b")")
 }

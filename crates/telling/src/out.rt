@@ -1,18 +1,24 @@
-// Text and numbers, to standard output or to where it is said.
-use libc::STDOUT_FILENO;
+// Text and numbers, written to a descriptor. Each function answers the descriptor, or -1 where not all was written; nothing is written to -1. So
+// what the last of a row answers tells of the whole row.
 
-pub fn say_to(fd: i32, text: &[u8]) {
-    io::write_all(fd, text);
+pub fn say(to: i32, text: &[u8]) -> i32 {
+    if to < 0 {
+        return to;
+    }
+    if io::write_all(to, text) {
+        return to;
+    }
+    -1
 }
 
-pub fn number_to(fd: i32, n: usize) {
-    io::print_decimal(fd, n as u64);
-}
-
-pub fn say(text: &[u8]) {
-    io::write_all(STDOUT_FILENO, text);
-}
-
-pub fn number(n: usize) {
-    io::print_decimal(STDOUT_FILENO, n as u64);
+// A text, and a number after it.
+pub fn counted(to: i32, text: &[u8], n: usize) -> i32 {
+    let to = say(to, text);
+    if to < 0 {
+        return to;
+    }
+    if io::print_decimal(to, n as u64) {
+        return to;
+    }
+    -1
 }

@@ -4,11 +4,11 @@ ghost use lib.ListN.{length};
 ghost use mathlib.Core.Path.{_≡_};
 use crate::out;
 use crate::ranges;
-use crate::runs;
+use crate::spans;
 
 // The sign of word i. A word of WORK that is read is told as read.
 fn sign(read: &[u8; 1000], written: &[u8; 1000], i: usize) -> u8 {
-    match runs::marks(read, written, i) {
+    match spans::marks(read, written, i) {
         0 => { if i < 7900 { b'.' } else { b'#' } }
         1 => b'r',
         2 => b'w',
@@ -33,49 +33,50 @@ fn fill(read: &[u8; 1000], written: &[u8; 1000], first: usize, to: &mut [u8; 11]
     }
 }
 
-fn say_ten(text: &[u8; 11]) {
-    out::say(text);
+fn say_ten(to: i32, text: &[u8; 11]) -> i32 {
+    out::say(to, text)
 }
 
 // The signs of ten words are written.
-fn ten(read: &[u8; 1000], written: &[u8; 1000], first: usize)
+fn ten(to: i32, read: &[u8; 1000], written: &[u8; 1000], first: usize) -> i32
     requires { ⌜ first < 9000 ⌝ }
 {
     let mut text = blanks();
     fill(read, written, first, &mut text);
-    say_ten(&text);
+    say_ten(to, &text)
 }
 
 // The row's first word, in a column of six.
-fn label(first: usize) {
-    out::say(b"D");
-    out::number(first);
+fn label(to: i32, first: usize) -> i32 {
+    let to = out::counted(to, b"D", first);
     if first == 0 {
-        out::say(b"    ");
-    } else if first < 1000 {
-        out::say(b"  ");
-    } else {
-        out::say(b" ");
+        return out::say(to, b"    ");
     }
+    if first < 1000 {
+        return out::say(to, b"  ");
+    }
+    out::say(to, b" ")
 }
 
 // The signs of 100 words, in tens.
-fn signs(read: &[u8; 1000], written: &[u8; 1000], first: usize)
+fn signs(out: i32, read: &[u8; 1000], written: &[u8; 1000], first: usize) -> i32
     requires { ⌜ first < 8000 ⌝ }
 {
+    let mut to = out;
     let mut k: usize = 0;
     while k < 10 {
-        ten(read, written, first + 10 * k);
+        to = ten(to, read, written, first + 10 * k);
         k += 1;
     }
+    to
 }
 
-fn row(read: &[u8; 1000], written: &[u8; 1000], first: usize)
+fn row(to: i32, read: &[u8; 1000], written: &[u8; 1000], first: usize) -> i32
     requires { ⌜ first < 8000 ⌝ }
 {
-    label(first);
-    signs(read, written, first);
-    out::say(b"\n");
+    let to = label(to, first);
+    let to = signs(to, read, written, first);
+    out::say(to, b"\n")
 }
 
 // The row that a word stands in begins there.
@@ -91,41 +92,47 @@ fn free_rows(read: &[u8; 1000], written: &[u8; 1000], first: usize) -> usize
     requires { ⌜ first < 8000 ⌝ }
     ensures { λ r. ⌜ r ≤ 8000 ⌝ }
 {
-    if runs::marks(read, written, first) != 0 {
+    if spans::marks(read, written, first) != 0 {
         return first;
     }
-    let end = runs::run_end(read, written, first, 0);
+    let end = spans::run_end(read, written, first, 0);
     if end > 7900 {
         return 7900;
     }
     row_of(end)
 }
 
-// A row, or one line for all that are free from there on. Answers where it goes on.
-fn show_from(read: &[u8; 1000], written: &[u8; 1000], first: usize) -> usize
-    requires { ⌜ first < 8000 ⌝ }
-    ensures { λ r. ⌜ (first < r) × (r ≤ 8100) ⌝ }
-{
-    let end = free_rows(read, written, first);
-    if first < end {
-        ranges::free(first, end - first);
-        return end;
-    }
-    row(read, written, first);
-    first + 100
+// Words that no record uses.
+fn free(to: i32, first: usize, length: usize) -> i32 {
+    let to = ranges::say_range(to, first, length);
+    out::say(to, b" free\n")
 }
 
-fn rows(read: &[u8; 1000], written: &[u8; 1000]) {
+// A row for each hundred words, or one line for all rows that are free from there on.
+fn rows(out: i32, read: &[u8; 1000], written: &[u8; 1000]) -> i32 {
+    let mut to = out;
     let mut i: usize = 0;
     while i < 8000 {
-        i = show_from(read, written, i);
+        let end = free_rows(read, written, i);
+        if i < end {
+            to = free(to, i, end - i);
+            i = end;
+            continue;
+        }
+        to = row(to, read, written, i);
+        i += 100;
     }
+    to
 }
 
-pub fn show(read: &[u8; 1000], written: &[u8; 1000]) {
-    out::say(b". free   r read   w written   b read and written   # WORK, free\n");
-    out::say(
+pub fn show(to: i32, read: &[u8; 1000], written: &[u8; 1000]) -> i32 {
+    let to = out::say(
+        to,
+        b". free   r read   w written   b read and written   # WORK, free\n",
+    );
+    let to = out::say(
+        to,
         b"       +0         +10        +20        +30        +40        +50        +60        +70        +80        +90\n",
     );
-    rows(read, written);
+    rows(to, read, written)
 }

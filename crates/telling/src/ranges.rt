@@ -1,11 +1,6 @@
 // Runs of D words as they are printed, and what is told of them.
 use crate::out;
 
-fn say_word(i: usize) {
-    out::say(b"D");
-    out::number(i);
-}
-
 // The last word of a run that begins at `first`. What is no run of D words is told as one word.
 fn last(first: usize, length: usize) -> usize {
     if first >= 8000 {
@@ -21,46 +16,31 @@ fn last(first: usize, length: usize) -> usize {
 }
 
 // D100-D109, or D100 for one word.
-pub fn say_range(first: usize, length: usize) {
+pub fn say_range(to: i32, first: usize, length: usize) -> i32 {
     let end = last(first, length);
-    say_word(first);
-    if end != first {
-        out::say(b"-");
-        say_word(end);
+    let to = out::counted(to, b"D", first);
+    if end == first {
+        return to;
     }
+    out::counted(to, b"-D", end)
 }
 
-pub fn moved(start: usize, length: usize, place: usize) {
-    out::say(b"moved ");
-    say_range(start, length);
-    out::say(b" to ");
-    say_range(place, length);
-    out::say(b"\n");
-}
-
-pub fn exchanged(start: usize, length: usize, place: usize) {
-    out::say(b"exchanged ");
-    say_range(start, length);
-    out::say(b" with ");
-    say_range(place, length);
-    out::say(b"\n");
+// Two runs of a length, with a word between them.
+pub fn both(to: i32, start: usize, between: &[u8], place: usize, length: usize) -> i32 {
+    let to = say_range(to, start, length);
+    let to = out::say(to, between);
+    say_range(to, place, length)
 }
 
 // How a run is marked: 1 read, 2 written, 3 both. One without a mark has no line.
-pub fn run(first: usize, length: usize, marks: usize) {
+pub fn run(to: i32, first: usize, length: usize, marks: usize) -> i32 {
     if marks == 0 {
-        return;
+        return to;
     }
-    say_range(first, length);
+    let to = say_range(to, first, length);
     match marks {
-        1 => out::say(b" read\n"),
-        2 => out::say(b" written\n"),
-        _ => out::say(b" read written\n"),
+        1 => out::say(to, b" read\n"),
+        2 => out::say(to, b" written\n"),
+        _ => out::say(to, b" read written\n"),
     }
-}
-
-// Words that no record uses, in a picture.
-pub fn free(first: usize, length: usize) {
-    say_range(first, length);
-    out::say(b" free\n");
 }

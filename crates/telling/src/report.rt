@@ -1,90 +1,98 @@
-// What is printed: an answer or a refusal on standard output, and the reason on standard error.
+// Answers and refusals: a line to `out`, and what a refusal means to `err`.
 use crate::meanings;
 use crate::names;
-use crate::out;
+use crate::out as text;
+use crate::ranges;
+use calls::results;
+use calls::results::Outcome;
 use ec20::Report;
-use libc::STDERR_FILENO;
 
-pub fn accepted(records: usize, steps: usize) {
-    out::say(b"accepted records ");
-    out::number(records);
-    out::say(b" steps ");
-    out::number(steps);
-    out::say(b"\n");
+pub fn accepted(records: usize, steps: usize, out: i32, err: i32) -> Outcome {
+    let to = text::counted(out, b"accepted records ", records);
+    let to = text::counted(to, b" steps ", steps);
+    let to = text::say(to, b"\n");
+    results::answered(0, false, to, err)
 }
 
-// A scan that ended, or was stopped by the watchdog.
-pub fn scanned(how: &[u8], r: Report) {
-    out::say(how);
-    out::say(b" steps ");
-    out::number(r.steps);
-    out::say(b" record ");
-    out::number(r.stop);
-    out::say(b" error ");
-    out::number(r.error);
-    out::say(b" record ");
-    out::number(r.at);
-    out::say(b"\n");
+// A scan that ended, or was stopped by the watchdog, and whose memory was written.
+pub fn scanned(how: &[u8], r: Report, out: i32, err: i32) -> Outcome {
+    let to = text::say(out, how);
+    let to = text::counted(to, b" steps ", r.steps);
+    let to = text::counted(to, b" record ", r.stop);
+    let to = text::counted(to, b" error ", r.error);
+    let to = text::counted(to, b" record ", r.at);
+    let to = text::say(to, b"\n");
+    results::answered(0, true, to, err)
 }
 
-// A word of the call as it was given.
-fn say_word(fd: i32, i: usize) {
-    let mut text = io::buffer();
-    let n = os::arg(i, &mut text);
-    out::say_to(fd, &text[..n]);
+pub fn moved(start: usize, length: usize, place: usize, out: i32, err: i32) -> Outcome {
+    let to = text::say(out, b"moved ");
+    let to = ranges::both(to, start, b" to ", place, length);
+    let to = text::say(to, b"\n");
+    results::answered(0, true, to, err)
 }
 
-// The file that word `word` of the call names, and the number.
-fn head(word: usize, number: usize) {
-    say_word(STDERR_FILENO, word);
-    out::say_to(STDERR_FILENO, b": refusal ");
-    out::number_to(STDERR_FILENO, number);
+pub fn exchanged(start: usize, length: usize, place: usize, out: i32, err: i32) -> Outcome {
+    let to = text::say(out, b"exchanged ");
+    let to = ranges::both(to, start, b" with ", place, length);
+    let to = text::say(to, b"\n");
+    results::answered(0, true, to, err)
+}
+
+fn line(number: usize, record: usize, out: i32, err: i32) -> Outcome {
+    let to = text::counted(out, b"refused ", number);
+    let to = text::counted(to, b" record ", record);
+    let to = text::say(to, b"\n");
+    results::answered(1, false, to, err)
+}
+
+// The name of the file that is told, and the number.
+fn head(err: i32, path: &[u8], number: usize) -> i32 {
+    let to = text::say(err, path);
+    text::counted(to, b": refusal ", number)
 }
 
 // The record, if one is told, with its instruction's name.
-fn place(file: &[u8], number: usize, record: usize) {
+fn place(to: i32, file: &[u8], number: usize, record: usize) -> i32 {
     if meanings::tells_record(number) {
-        out::say_to(STDERR_FILENO, b" at record ");
-        out::number_to(STDERR_FILENO, record);
-        names::say_name(STDERR_FILENO, file, record);
+        let to = text::counted(to, b" at record ", record);
+        return names::say_name(to, file, record);
     }
+    to
 }
 
-fn answer(number: usize, record: usize) {
-    out::say(b"refused ");
-    out::number(number);
-    out::say(b" record ");
-    out::number(record);
-    out::say(b"\n");
-}
-
-// word: which word of the call names the file that is told; file: the program file, in which the record stands.
-pub fn refused(word: usize, file: &[u8], number: usize, record: usize) {
-    answer(number, record);
-    head(word, number);
-    place(file, number, record);
-    out::say_to(STDERR_FILENO, b": ");
-    meanings::meaning(STDERR_FILENO, number);
-    out::say_to(STDERR_FILENO, b"\n");
+// path: the name of the file that is told; file: the program file, in which the record stands.
+pub fn refused(
+    path: &[u8],
+    file: &[u8],
+    number: usize,
+    record: usize,
+    out: i32,
+    err: i32,
+) -> Outcome {
+    let outcome = line(number, record, out, err);
+    let to = head(err, path, number);
+    let to = place(to, file, number, record);
+    let to = text::say(to, b": ");
+    let to = meanings::meaning(to, number);
+    text::say(to, b"\n");
+    outcome
 }
 
 // The place of an exchange is named in the call, so that its 14 means another thing.
-pub fn refused_exchange(word: usize, number: usize, record: usize) {
-    answer(number, record);
-    head(word, number);
-    out::say_to(STDERR_FILENO, b": ");
-    meanings::meaning_exchange(STDERR_FILENO, number);
-    out::say_to(STDERR_FILENO, b"\n");
+pub fn refused_exchange(path: &[u8], number: usize, record: usize, out: i32, err: i32) -> Outcome {
+    let outcome = line(number, record, out, err);
+    let to = head(err, path, number);
+    let to = text::say(to, b": ");
+    let to = meanings::meaning_exchange(to, number);
+    text::say(to, b"\n");
+    outcome
 }
 
-// The line before a map, which may have none. The script takes it away: it tells an empty map from a call that was not tried.
-pub fn mapped() {
-    out::say(b"mapped\n");
-}
-
-pub fn usage() {
-    out::say_to(
-        STDERR_FILENO,
+pub fn usage(err: i32) -> Outcome {
+    text::say(
+        err,
         b"usage: ninhalto check FILE, map [--picture] FILE, scan FILE MEMORY ELAPSED [BUDGET], move FILE START LENGTH POOLSTART POOLEND, exchange MEMORY START LENGTH PLACE, trial OLD START LENGTH POOLSTART POOLEND MEMORY SCANS, demo, or help\n",
     );
+    results::not_tried()
 }

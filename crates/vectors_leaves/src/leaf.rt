@@ -1,5 +1,6 @@
 // A case of 32 bytes: a word instruction on values, or a pair of D words.
 use crate::number;
+use crate::outcome;
 use crate::told::Case;
 use ec20::Outcome;
 use records::u32_at;
@@ -44,7 +45,7 @@ fn word_agrees(r: &[u8; 32]) -> bool {
     let n = instruction(records::wide(r[0]), w);
     let a = number::signed(r, 4, w);
     let b = number::signed(r, 8, w);
-    same_outcome(arith::compute(n, number::half_of(w), a, b), r)
+    same_outcome(outcome::compute(n, number::half_of(w), a, b), r)
 }
 
 // Op 200: two words, and the number that they are.

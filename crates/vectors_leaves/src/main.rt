@@ -3,6 +3,7 @@
 mod group;
 mod leaf;
 mod number;
+mod outcome;
 mod told;
 
 use told::Case;

@@ -1,11 +1,11 @@
 use Rattle.engine.proofs.ScanLaws.{unfit-scan, fit-scan}
-use Rattle.checker.proofs.Accepted.{accepted-framed}
+use Rattle.checker.proofs.Accepted.{accepted-framed, accepted-fine}
 use borrow.Author.Needs.{needs}
 use Rattle.engine.proofs.scan_file.Statement.{statement}
 use Rattle.engine.proofs.scan_file.Tie as tie
 
 scan-accepted-requires : tie.Need-scan-accepted-requires
-scan-accepted-requires c κs = accepted-framed _ (c .before .before .before .before .before .before .before .before .check .ensures) (c .before .before .before .before .before .before .enum-told .given .1)
+scan-accepted-requires c κs = (accepted-framed _ (c .before .before .before .before .before .before .before .before .check .ensures) (c .before .before .before .before .before .before .enum-told .given .1), accepted-fine _ (c .before .before .before .before .before .before .before .before .check .ensures) (c .before .before .before .before .before .before .enum-told .given .1))
 
 returns : tie.Need-returns
 returns c = unfit-scan _ _ _ _ (c .before .before .before .check .ensures) (c .before .number .given .1)

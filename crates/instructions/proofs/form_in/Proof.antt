@@ -1,16 +1,13 @@
 use borrow.Author.Needs.{needs}
 use native.Mathlib.Omega.{arith}
-use mathlib.Core.Path.{_≡_, ap, _∙_}
-use mathlib.Core.List.{List, []}
-use Prim.Native.Nat.{ℕ}
-use lib.ListN.{getD}
+use mathlib.Core.Path.{refl, ap}
 use Rattle.ec20.specs.declared.Row.{Row}
-use Rattle.instructions.proofs.Rows.{row-by-cells, row-past}
+use Rattle.instructions.proofs.Rows.{cell, row-past}
 use Rattle.instructions.proofs.form_in.Statement.{statement}
 use Rattle.instructions.proofs.form_in.Tie as tie
 
 returns : tie.Need-returns
-returns c = ap (λ (t : List (List ℕ)). getD (getD t (c .before .before .args .n) []) 1 0) (c .before .before .pre) ∙ ap (λ (r : Row). r .form) (row-by-cells _)
+returns c = cell _ _ 1 (λ (r : Row). r .form) (λ t. refl) (c .before .before .pre)
 
 returns-2 : tie.Need-returns-2
 returns-2 c = ap (λ (r : Row). r .form) (row-past _ (omega arith))

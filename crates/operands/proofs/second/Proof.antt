@@ -5,13 +5,18 @@ use native.Mathlib.Omega.{arith}
 use mir.Syntax.{w64}
 use Rattle.ints.proofs.Parts.{said}
 use Rattle.bits.proofs.Laws.{width-bounds}
-use Rattle.operands.proofs.Steps.{into-d, second-stored}
+use Rattle.operands.proofs.Steps.{into-d, follows, second-stored}
 use borrow.Author.Needs.{needs}
 use Rattle.operands.proofs.second.Statement.{statement}
 use Rattle.operands.proofs.second.Tie as tie
 
 returns : tie.Need-returns
 returns c = λ x sm t tv. rw (ne-eqb _ _ (c .if1 .taken))
+
+next-requires : tie.Need-next-requires
+next-requires c κs =
+    let start = c .before .before .before .before in
+    (start .pre .0, omega (arith, start .pre .2, width-bounds (start .args .w) .0))
 
 put-number-requires : tie.Need-put-number-requires
 put-number-requires c κs =
@@ -31,7 +36,7 @@ returns-2 c =
     let start = at-if1 .before .before .before .before in
     let a = start .args in
     let s = said w64 {z = a .r .second} (omega (arith, start .pre .1, width-bounds (a .w))) refl in
-    second-stored (a .w) (a .o) (a .r) _ _ _ _ _ _ (at-if1 .if1 .left) (at-next .next .ensures) s (λ x sm t tv. into-d _ _ _ _ _ _ _ _ _ _ (at-if2 .if2 .taken) (at-put-number .put-number .ensures))
+    second-stored (a .w) (a .o) (a .r) _ _ _ _ _ _ (at-if1 .if1 .left) (follows (a .w) (a .o) (at-next .next .ensures) (start .pre .2)) s (λ x sm t tv. into-d _ _ _ _ _ _ _ _ _ _ (at-if2 .if2 .taken) (at-put-number .put-number .ensures))
 
 store-group-requires : tie.Need-store-group-requires
 store-group-requires c κs =
@@ -51,14 +56,14 @@ returns-3 c =
     let start = at-if1 .before .before .before .before in
     let a = start .args in
     let s = said w64 {z = a .r .second} (omega (arith, start .pre .1, width-bounds (a .w))) refl in
-    second-stored (a .w) (a .o) (a .r) _ _ _ _ _ _ (at-if1 .if1 .left) (at-next .next .ensures) s (λ x sm t tv. at-store-group .store-group .ensures x sm t (a .d .now) tv)
+    second-stored (a .w) (a .o) (a .r) _ _ _ _ _ _ (at-if1 .if1 .left) (follows (a .w) (a .o) (at-next .next .ensures) (start .pre .2)) s (λ x sm t tv. at-store-group .store-group .ensures x sm t (a .d .now) tv)
 
 pub second-spec : {M : Type 1} → statement M
 second-spec =
     tie.close
     (tie.spec
     returns
-    (λ c κs. search needs)
+    next-requires
     put-number-requires
     (λ c. search needs)
     returns-2

@@ -1,3 +1,4 @@
+use mathlib.Core.Path.{refl}
 use Rattle.ec20.specs.File.{recordFrom}
 use borrow.Author.Needs.{needs}
 use Rattle.records.proofs.record_from.Statement.{statement}
@@ -5,7 +6,7 @@ use Rattle.records.proofs.record_from.Tie as tie
 
 returns : tie.Need-returns
 unfolding recordFrom
-returns c = (cc, record { number = search needs; first = search needs; second = search needs; third = search needs })
+returns c = (rw (c .operand-at3 .ensures .0, c .before .operand-at2 .ensures .0, c .before .before .operand-at .ensures .0, c .before .before .before .wide2 .ensures .0, c .before .before .before .before .before .wide .ensures .0) refl, record { number = search needs; first = search needs; second = search needs; third = search needs })
 
 pub record-from-spec : {M : Type 1} → statement M
 record-from-spec =

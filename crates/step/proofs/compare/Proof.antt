@@ -8,7 +8,7 @@ use Rattle.step.proofs.compare.Statement.{statement}
 use Rattle.step.proofs.compare.Tie as tie
 
 returns : tie.Need-returns
-returns c = λ b t. c .compare .ensures ∙ ap₂ (λ (u v : ℤ). compareOf (c .before .before .before .before .before .before .args .n) u v (c .before .before .before .before .before .before .args .s)) (said w64 (c .before .before .load-word .ok) (c .before .before .load-word .ensures .0 b t)) (said w64 (c .before .load-word2 .ok) (c .before .load-word2 .ensures .0 b t))
+returns c = λ b t. c .compare .ensures ∙ ap₂ (λ (u v : ℤ). compareOf (c .before .before .before .before .before .before .args .n) u v (c .before .before .before .before .before .before .args .s)) (said w64 (c .before .before .compared .ok) (c .before .before .compared .ensures .0 b t)) (said w64 (c .before .compared2 .ok) (c .before .compared2 .ensures .0 b t))
 
 pub compare-spec : {M : Type 1} → statement M
 compare-spec = tie.close (tie.spec (λ c κs. search needs) (λ c κs. search needs) (λ c κs. search needs) returns)

@@ -5,10 +5,10 @@ use Rattle.telling.proofs.picture.rows.Statement.{statement}
 use Rattle.telling.proofs.picture.rows.Tie as tie
 
 abbrev Inv-loop : tie.InvT-loop
-Inv-loop read written i₀ i = i ≤ 8100
+Inv-loop out read written to₀ i₀ to i = i ≤ 8100
 
 abbrev μ-loop : tie.MeasureT-loop
-μ-loop read written i₀ i = 8000 - i
+μ-loop out read written to₀ i₀ to i = 8000 - i
 
 pub rows-spec : {M : Type 1} → statement M
 rows-spec =
@@ -18,6 +18,12 @@ rows-spec =
     μ-loop
     (λ c. search needs)
     (λ c κs. search needs)
+    (λ c. search needs)
+    (λ c κs. search needs)
+    (λ c. search needs)
+    (λ c. search needs)
+    (λ c κs. search needs)
+    (λ c. search needs)
     (λ c. search needs)
     (λ c. search needs)
     (λ c. search needs))

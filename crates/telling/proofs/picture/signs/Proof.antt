@@ -5,10 +5,10 @@ use Rattle.telling.proofs.picture.signs.Statement.{statement}
 use Rattle.telling.proofs.picture.signs.Tie as tie
 
 abbrev Inv-loop : tie.InvT-loop
-Inv-loop read written first k₀ k = k ≤ 10
+Inv-loop out read written first to₀ k₀ to k = k ≤ 10
 
 abbrev μ-loop : tie.MeasureT-loop
-μ-loop read written first k₀ k = 10 - k
+μ-loop out read written first to₀ k₀ to k = 10 - k
 
 pub signs-spec : {M : Type 1} → statement M
 signs-spec =

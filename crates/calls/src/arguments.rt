@@ -1,0 +1,42 @@
+// The arguments of the program as the words of a call, each ended by a zero byte.
+
+fn put(call: &mut [u8], i: usize, b: u8) {
+    if i < call.len() {
+        call[i] = b;
+    }
+}
+
+// A word in the call from `at` on. Answers where the next one begins: past its zero byte.
+fn add(call: &mut [u8], at: usize, word: &[u8]) -> usize {
+    let mut to = at;
+    let mut i: usize = 0;
+    while i < word.len() {
+        put(call, to, word[i]);
+        to = std::num::wrapping_add_usize(to, 1);
+        i += 1;
+    }
+    put(call, to, 0);
+    std::num::wrapping_add_usize(to, 1)
+}
+
+// Argument i. A word that is longer than the buffer has the call end past every buffer.
+fn add_argument(call: &mut [u8], at: usize, i: usize) -> usize {
+    let mut word = io::large_buffer();
+    let n = os::arg(i, &mut word);
+    if os::errno() != 0 {
+        return 1_000_000;
+    }
+    add(call, at, &word[..n])
+}
+
+// All but the program's own name. Answers how long the call is; it fits where that is no more than the buffer holds.
+pub fn gather(call: &mut [u8]) -> usize {
+    let count = os::arg_count();
+    let mut n: usize = 0;
+    let mut i: usize = 1;
+    while i < count {
+        n = add_argument(call, n, i);
+        i += 1;
+    }
+    n
+}

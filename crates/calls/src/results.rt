@@ -1,0 +1,35 @@
+// What came of a call.
+
+// status: 0 answered, 1 refused or found to differ, 2 not tried or not told. replaced: whether a file was.
+pub struct Outcome {
+    pub status: usize,
+    pub replaced: bool,
+}
+
+pub fn not_tried() -> Outcome {
+    Outcome {
+        status: 2,
+        replaced: false,
+    }
+}
+
+// An answer went to `out`, which is -1 where not all of it was written; then that is told, and it counts for nothing.
+pub fn answered(status: usize, replaced: bool, out: i32, err: i32) -> Outcome {
+    if out < 0 {
+        io::write_all(err, b"ninhalto: the answer could not be written\n");
+        return Outcome {
+            status: 2,
+            replaced,
+        };
+    }
+    Outcome { status, replaced }
+}
+
+// As a line: the status, with `replaced` after it where a file was.
+pub fn tell(to: i32, o: Outcome) {
+    io::print_decimal(to, o.status as u64);
+    if o.replaced {
+        io::write_all(to, b" replaced");
+    }
+    io::write_all(to, b"\n");
+}

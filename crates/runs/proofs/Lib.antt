@@ -1,0 +1,4 @@
+-- A step of END, and of any other record.
+mod Ending
+-- A run under way.
+pub mod Going

@@ -1,0 +1,56 @@
+// What came of a scan of each program.
+use ec20::Report;
+use ec20::Scanned;
+
+// What a scan answered. kind: 0 refused, 1 ended, 2 watchdog; where it is refused, steps is the number and stop the record.
+pub struct Answer {
+    pub kind: usize,
+    pub steps: usize,
+    pub stop: usize,
+    pub error: usize,
+    pub at: usize,
+}
+
+// apart: the first byte of the memory file at which the memories differ after exchange; 16890 where none does.
+pub struct Turn {
+    pub old: Answer,
+    pub new: Answer,
+    pub apart: usize,
+}
+
+fn ran(kind: usize, r: Report) -> Answer {
+    Answer {
+        kind,
+        steps: r.steps,
+        stop: r.stop,
+        error: r.error,
+        at: r.at,
+    }
+}
+
+pub fn answer_of(s: Scanned) -> Answer {
+    match s {
+        Scanned::Ended(r) => ran(1, r),
+        Scanned::Watchdog(r) => ran(2, r),
+        Scanned::Refused { number, record } => Answer {
+            kind: 0,
+            steps: number,
+            stop: record,
+            error: 0,
+            at: 0,
+        },
+    }
+}
+
+pub fn same_answer(a: Answer, b: Answer) -> bool {
+    (a.kind == b.kind)
+        & (a.steps == b.steps)
+        & (a.stop == b.stop)
+        & (a.error == b.error)
+        & (a.at == b.at)
+}
+
+// The answers are the same, and so are the memories after exchange.
+pub fn alike(t: Turn) -> bool {
+    same_answer(t.old, t.new) & (t.apart == 16890)
+}

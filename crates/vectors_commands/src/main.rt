@@ -1,0 +1,98 @@
+// Runs the calls of the file `calls`, a call a line, with both descriptors at standard output, and tells what came of each. The first word of a line
+// names the file of which `it` is a copy before the call, the second the file that `it` is like after it; the others are the call. The first is - where
+// the call changes nothing, and closed where its answer is lost.
+mod lines;
+mod room;
+
+use calls::results::Outcome;
+use calls::text;
+use check::same;
+use libc::STDOUT_FILENO;
+
+// A descriptor that nothing has open, for the calls whose answer is to be lost.
+const CLOSED: i32 = 1000;
+
+fn say(text: &[u8]) {
+    io::write_all(STDOUT_FILENO, text);
+}
+
+fn tell(o: Outcome) {
+    say(b"= ");
+    io::print_decimal(STDOUT_FILENO, o.status as u64);
+    if o.replaced {
+        say(b" replaced");
+    }
+}
+
+// What `it` is after the call. fd: the file that it was before.
+fn tell_it(before: &[u8], after: &[u8], fd: i32) {
+    if room::alike(b"it", before) {
+        say(b", it as before");
+    } else if room::alike(b"it", after) {
+        say(b", it as ");
+        say(after);
+    } else {
+        say(b", it is neither");
+    }
+    if room::is_at(b"it", fd) {
+        say(b", the same file");
+    } else {
+        say(b", a new file");
+    }
+}
+
+// A call over a copy of a file.
+fn run_over(before: &[u8], after: &[u8], call: &[u8]) {
+    room::put(before, b"it");
+    let fd = os::open_append(b"it");
+    tell(commands::run(call, STDOUT_FILENO, STDOUT_FILENO));
+    tell_it(before, after, fd);
+    libc::close(fd);
+}
+
+// The line as a call.
+fn run(line: &[u8]) {
+    let before = text::word(line, 0);
+    let call = text::rest(line, 2);
+    if same(before, b"-") {
+        tell(commands::run(call, STDOUT_FILENO, STDOUT_FILENO));
+    } else if same(before, b"closed") {
+        tell(commands::run(call, CLOSED, STDOUT_FILENO));
+    } else {
+        run_over(before, text::word(line, 1), call);
+    }
+    say(b"\n");
+}
+
+// The call is the first n bytes; a longer line than the buffer is none.
+fn run_part(call: &[u8], n: usize) {
+    if n < call.len() {
+        run(&call[0..n + 1]);
+    }
+}
+
+// A line: a remark, or a call, which is told first.
+fn turn(text: &[u8]) {
+    say(text);
+    say(b"\n");
+    if lines::is_call(text) {
+        let mut call = io::buffer();
+        lines::to_call(text, &mut call);
+        run_part(&call, text.len());
+    }
+}
+
+fn each(list: &[u8]) {
+    let mut at: usize = 0;
+    while at < list.len() {
+        let end = bytes::scan::find(list, at, list.len(), b'\n');
+        turn(&list[at..end]);
+        at = end + 1;
+    }
+}
+
+fn main() {
+    let mut list = io::large_buffer();
+    let n = room::load(b"calls", &mut list);
+    each(&list[..n]);
+}
