@@ -1,22 +1,18 @@
 // The arguments of the program as the words of a call, each ended by a zero byte.
 
-fn put(call: &mut [u8], i: usize, b: u8) {
-    if i < call.len() {
-        call[i] = b;
-    }
-}
-
-// A word in the call from `at` on. Answers where the next one begins: past its zero byte.
+// A word in the call from `at` on, where zeros are. Answers where the next one begins: past its zero byte.
 fn add(call: &mut [u8], at: usize, word: &[u8]) -> usize {
-    let mut to = at;
-    let mut i: usize = 0;
-    while i < word.len() {
-        put(call, to, word[i]);
-        to = std::num::wrapping_add_usize(to, 1);
-        i += 1;
+    let n = word.len();
+    let m = call.len();
+    let next = std::num::wrapping_add_usize(std::num::wrapping_add_usize(at, n), 1);
+    if at >= m {
+        return next;
     }
-    put(call, to, 0);
-    std::num::wrapping_add_usize(to, 1)
+    if n >= m - at {
+        return next;
+    }
+    bytes::copy(word, &mut call[at..]);
+    next
 }
 
 // Argument i. A word that is longer than the buffer has the call end past every buffer.
@@ -29,7 +25,7 @@ fn add_argument(call: &mut [u8], at: usize, i: usize) -> usize {
     add(call, at, &word[..n])
 }
 
-// All but the program's own name. Answers how long the call is; it fits where that is no more than the buffer holds.
+// All but the program's own name, in a buffer of zeros. Answers how long the call is; it fits where that is no more than the buffer holds.
 pub fn gather(call: &mut [u8]) -> usize {
     let count = os::arg_count();
     let mut n: usize = 0;

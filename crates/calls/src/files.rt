@@ -37,17 +37,13 @@ pub fn load(path: &[u8], err: i32, buf: &mut [u8; 65536]) -> Bytes
     Bytes { n, whole }
 }
 
-// All bytes are written and have reached their device.
-fn fill(fd: i32, bytes: &[u8]) -> bool {
-    if !io::write_all(fd, bytes) {
-        return false;
-    }
-    libc::fsync(fd) == 0
-}
-
-// The new file is written, closed and renamed. What fails is told.
+// The new file is written, and its bytes have reached their device; it is closed and renamed. What fails is told.
 fn put_over(fd: i32, name: &[u8], path: &[u8], bytes: &[u8], err: i32) -> bool {
-    let filled = fill(fd, bytes);
+    let filled = if io::write_all(fd, bytes) {
+        libc::fsync(fd) == 0
+    } else {
+        false
+    };
     if !filled {
         errors::failed(err, name);
     }
@@ -77,27 +73,26 @@ fn replace_by(path: &[u8], name: &mut [u8], bytes: &[u8], err: i32) -> bool {
     false
 }
 
-fn put(text: &mut [u8], i: usize, b: u8) {
-    if i < text.len() {
-        text[i] = b;
-    }
-}
-
-// The byte of a new name: of the path, then .XXXXXX.
-fn letter(path: &[u8], i: usize) -> u8 {
-    if i < path.len() {
-        return path[i];
-    }
-    if i == path.len() { b'.' } else { b'X' }
-}
-
+// A new name: the path, then .XXXXXX.
 fn name_beside(path: &[u8], name: &mut [u8]) {
-    let n = name.len();
-    let mut i: usize = 0;
-    while i < n {
-        put(name, i, letter(path, i));
-        i += 1;
+    let n = path.len();
+    if n > 4089 {
+        return;
     }
+    if n + 7 > name.len() {
+        return;
+    }
+    bytes::copy(path, name);
+    bytes::copy(b".XXXXXX", &mut name[n..]);
+}
+
+// The name is the first n bytes of the buffer.
+fn replace_part(path: &[u8], name: &mut [u8], n: usize, bytes: &[u8], err: i32) -> bool {
+    if n <= name.len() {
+        name_beside(path, &mut name[..n]);
+        return replace_by(path, &mut name[..n], bytes, err);
+    }
+    false
 }
 
 // The file at path, replaced. The new name is seven bytes longer; one that has no room is no path, and that is told.
@@ -108,13 +103,4 @@ pub fn replace(path: &[u8], bytes: &[u8], err: i32) -> bool {
         return replace_by(path, &mut name, bytes, err);
     }
     replace_part(path, &mut name, n + 7, bytes, err)
-}
-
-// The name is the first n bytes of the buffer.
-fn replace_part(path: &[u8], name: &mut [u8], n: usize, bytes: &[u8], err: i32) -> bool {
-    if n <= name.len() {
-        name_beside(path, &mut name[..n]);
-        return replace_by(path, &mut name[..n], bytes, err);
-    }
-    false
 }

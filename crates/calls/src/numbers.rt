@@ -1,6 +1,24 @@
 // Numbers in a call.
 ghost use Prim.Native.Nat.{_≤_};
 use crate::text;
+use crate::texts;
+
+// The texts that tell which word of a call is no number.
+pub const START: usize = texts::NO_NUMBER;
+
+pub const LENGTH: usize = texts::NO_NUMBER + 1;
+
+pub const POOLSTART: usize = texts::NO_NUMBER + 2;
+
+pub const POOLEND: usize = texts::NO_NUMBER + 3;
+
+pub const PLACE: usize = texts::NO_NUMBER + 4;
+
+pub const ELAPSED: usize = texts::NO_NUMBER + 5;
+
+pub const BUDGET: usize = texts::NO_NUMBER + 6;
+
+pub const SCANS: usize = texts::NO_NUMBER + 7;
 
 // An unsigned 32-bit number; 0 where there is none.
 pub struct Number {
@@ -49,8 +67,8 @@ fn parsed(text: &[u8]) -> u64 {
     n
 }
 
-// The number that word i is. What is none is told, by the name that the usage gives it.
-pub fn word(call: &[u8], i: usize, name: &[u8], err: i32) -> Number {
+// The number that word i is. What is none is told by a text, with the name that the usage gives it.
+pub fn word(call: &[u8], i: usize, told: usize, err: i32) -> Number {
     let v = parsed(text::word(call, i));
     if v < 4294967296 {
         return Number {
@@ -58,8 +76,7 @@ pub fn word(call: &[u8], i: usize, name: &[u8], err: i32) -> Number {
             good: true,
         };
     }
-    io::write_all(err, name);
-    io::write_all(err, b": no number from 0 to 4294967295\n");
+    texts::say(err, told, 0, 0, 0, 0);
     Number { n: 0, good: false }
 }
 
@@ -79,12 +96,12 @@ pub struct Asked {
 
 // The words 2 to 5 of a call.
 pub fn block_and_pool(call: &[u8], err: i32) -> Asked {
-    let start = word(call, 2, b"START", err);
-    let length = word(call, 3, b"LENGTH", err_after(start.good, err));
+    let start = word(call, 2, START, err);
+    let length = word(call, 3, LENGTH, err_after(start.good, err));
     let two = start.good & length.good;
-    let pool_start = word(call, 4, b"POOLSTART", err_after(two, err));
+    let pool_start = word(call, 4, POOLSTART, err_after(two, err));
     let three = two & pool_start.good;
-    let pool_end = word(call, 5, b"POOLEND", err_after(three, err));
+    let pool_end = word(call, 5, POOLEND, err_after(three, err));
     Asked {
         start: start.n,
         length: length.n,

@@ -1,4 +1,5 @@
 // What came of a call.
+use crate::texts;
 
 // status: 0 answered, 1 refused or found to differ, 2 not tried or not told. replaced: whether a file was.
 pub struct Outcome {
@@ -16,7 +17,7 @@ pub fn not_tried() -> Outcome {
 // An answer went to `out`, which is -1 where not all of it was written; then that is told, and it counts for nothing.
 pub fn answered(status: usize, replaced: bool, out: i32, err: i32) -> Outcome {
     if out < 0 {
-        io::write_all(err, b"ninhalto: the answer could not be written\n");
+        texts::say(err, texts::LOST, 0, 0, 0, 0);
         return Outcome {
             status: 2,
             replaced,
@@ -27,9 +28,9 @@ pub fn answered(status: usize, replaced: bool, out: i32, err: i32) -> Outcome {
 
 // As a line: the status, with `replaced` after it where a file was.
 pub fn tell(to: i32, o: Outcome) {
-    io::print_decimal(to, o.status as u64);
     if o.replaced {
-        io::write_all(to, b" replaced");
+        texts::say(to, texts::STATUS + 1, o.status, 0, 0, 0);
+    } else {
+        texts::say(to, texts::STATUS, o.status, 0, 0, 0);
     }
-    io::write_all(to, b"\n");
 }

@@ -56,6 +56,18 @@ pub fn count(call: &[u8]) -> usize {
     n
 }
 
+// Which of the n words of a list the word is, the first as 0; n where it is none.
+pub fn which(name: &[u8], list: &[u8], n: usize) -> usize {
+    let mut k: usize = 0;
+    while k < n {
+        if check::same(name, word(list, k)) {
+            return k;
+        }
+        k += 1;
+    }
+    k
+}
+
 // The call from word i on.
 pub fn rest(call: &[u8], i: usize) -> &[u8] {
     let from = start_of(call, i);

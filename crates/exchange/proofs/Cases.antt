@@ -6,6 +6,7 @@ use lib.Dec.{eqb}
 use lib.IntN.{ℤ}
 use lib.ListN.{length}
 use borrow.Author.Tests.{eqb-true}
+use Rattle.blocks.specs.Apart.{Apart}
 use Rattle.ec20.proofs.NoFault.{passed, then-fine, block-inside, place-inside}
 use Rattle.ec20.specs.Basics.{then}
 use Rattle.ec20.specs.Devices.{ec20}
@@ -15,7 +16,6 @@ use Rattle.ec20.specs.declared.Exchanged.{Exchanged}
 use Rattle.ec20.specs.declared.Exchanged.the-variants.{Done, Refused}
 use Rattle.ec20.specs.declared.Judged.{Judged}
 use Rattle.ec20.specs.declared.Judged.the-variants.{Fine, Fault}
-use Rattle.moved.specs.Placed.{Apart}
 
 -- the answer, and the table
 abbrev pub told : Exchanged → List ℤ → Exchange

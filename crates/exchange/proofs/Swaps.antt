@@ -8,14 +8,14 @@ use native.Mathlib.Omega.{arith}
 use lib.IntN.{ℤ, pos}
 use lib.ListN.{length, set, length-set}
 use lib.Seq.{ext-getD, getD-set-same, getD-set-other}
+use Rattle.blocks.proofs.Swapped.{Clear, clear}
+use Rattle.blocks.specs.Apart.{Apart}
 use Rattle.ec20.proofs.Ranges.{within-yes, within-no, within-more}
 use Rattle.ec20.proofs.MovedLaws.{getD-from, length-from}
 use Rattle.ec20.specs.Devices.{ec20}
 use Rattle.ec20.specs.Exchange.{swapped, exchanged}
 use Rattle.ec20.specs.Move.{Block, block}
 use Rattle.ec20.specs.Registers.{wordAt}
-use Rattle.moved.proofs.Swapped.{Clear, clear}
-use Rattle.moved.specs.Placed.{Apart}
 
 -- the exchanged table, word by word
 module _ (b : Block) (q : ℕ) (d : List ℤ) where

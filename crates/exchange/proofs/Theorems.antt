@@ -6,6 +6,8 @@ use native.Mathlib.Omega.{arith}
 use lib.IntN.{ℤ, pos}
 use lib.ListN.{length}
 use lib.Seq.{ext-getD}
+use Rattle.blocks.proofs.Swapped.{swap-twice, swap-stays}
+use Rattle.blocks.specs.Apart.{Apart}
 use Rattle.ec20.proofs.Tests.{one-answer}
 use Rattle.ec20.specs.Devices.{ec20}
 use Rattle.ec20.specs.Exchange.{Exchange, swapped, exchanged, sizeFault, judgeExchange, exchangeIf, exchangeFor, exchangeOf}
@@ -17,8 +19,6 @@ use Rattle.ec20.specs.declared.Judged.{Judged}
 use Rattle.ec20.specs.declared.Judged.the-variants.{Fine, Fault}
 use Rattle.exchange.proofs.Cases.{told, is-apart}
 use Rattle.exchange.proofs.Swaps.{exchanged-length, exchanged-at}
-use Rattle.moved.proofs.Swapped.{is-swap}
-use Rattle.moved.specs.Placed.{Apart}
 
 -- two results that meet the contract are equal: answer and table
 pub one-exchange : (d : List ℤ) (b : Block) (q : ℕ) {r s : Exchange} → r ≡ exchangeOf d b q → s ≡ exchangeOf d b q → r ≡ s
@@ -27,15 +27,14 @@ one-exchange d b q = one-answer
 -- a table exchanged twice is as it was
 pub exchanged-twice : (b : Block) (q : ℕ) (d : List ℤ) → Apart ec20 b q → length d ≡ 8000 → exchanged b q (exchanged b q d) ≡ d
 exchanged-twice b q d w size =
-    let swap = is-swap ec20 b q w in
     let n : length (exchanged b q (exchanged b q d)) ≡ length d = exchanged-length b q (exchanged b q d) ∙ exchanged-length b q d in
     ext-getD (pos 0) (exchanged b q (exchanged b q d)) d n
     (λ i l.
     let k : i < length d = subst (λ (x : ℕ). i < x) n l in
     let k′ : i < length (exchanged b q d) = rw (exchanged-length b q d) k in
     exchanged-at b q (exchanged b q d) i k′
-    ∙ exchanged-at b q d (swapped b q i) (rw size (swap .stays i (omega arith)))
-    ∙ ap (wordAt d) (swap .twice i))
+    ∙ exchanged-at b q d (swapped b q i) (rw size (swap-stays ec20 b q w i (omega arith)))
+    ∙ ap (wordAt d) (swap-twice ec20 b q w i))
 
 -- a judgement asks of the table its length alone
 judge-same : (d e : List ℤ) (b : Block) (q : ℕ) → length d ≡ length e → judgeExchange ec20 d b q ≡ judgeExchange ec20 e b q

@@ -1,10 +1,10 @@
 // The exchange of the D table: the words of a block and of a place of the same length change places.
 ghost use Prim.Native.Nat.{_<_, _^_};
+ghost use Rattle.blocks.specs.Apart.{Apart};
 ghost use Rattle.ec20.specs.Devices.{ec20};
 ghost use Rattle.ec20.specs.Exchange.{exchanged, sizeFault, judgeExchange, exchangeOf};
 ghost use Rattle.ec20.specs.Move.{block};
 ghost use Rattle.ec20.specs.Registers.{wordAt};
-ghost use Rattle.moved.specs.Placed.{Apart};
 ghost use lib.ListN.{length, set};
 ghost use mathlib.Core.Path.{_≡_};
 use ec20::Exchanged;

@@ -52,10 +52,15 @@ fn run_asked(path: &[u8], w: Way, out: i32, err: i32) -> Outcome {
 }
 
 pub fn run(call: &[u8], out: i32, err: i32) -> Outcome {
-    let start = numbers::word(call, 2, b"START", err);
-    let length = numbers::word(call, 3, b"LENGTH", numbers::err_after(start.good, err));
+    let start = numbers::word(call, 2, numbers::START, err);
+    let length = numbers::word(
+        call,
+        3,
+        numbers::LENGTH,
+        numbers::err_after(start.good, err),
+    );
     let two = start.good & length.good;
-    let place = numbers::word(call, 4, b"PLACE", numbers::err_after(two, err));
+    let place = numbers::word(call, 4, numbers::PLACE, numbers::err_after(two, err));
     if two & place.good {
         let w = Way {
             start: start.n,

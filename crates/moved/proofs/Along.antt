@@ -14,8 +14,8 @@ use Rattle.ec20.specs.declared.Place.{Place}
 use Rattle.ec20.specs.Devices.{Device, kindD, meets, inside}
 use Rattle.ec20.specs.Exchange.{swapped}
 use Rattle.ec20.specs.Move.{Block, block, touches, partly, movedNumber}
-use Rattle.moved.specs.Placed.{Apart}
-use Rattle.moved.proofs.Swapped.{Clear, clear, within-clear, swap-block, swap-out}
+use Rattle.blocks.specs.Apart.{Apart}
+use Rattle.blocks.proofs.Swapped.{Clear, clear, within-clear, swap-block, swap-out}
 
 -- the e words from a on are all in the block, or clear of block and place
 abbrev pub Fair : Block → ℕ → ℕ → ℕ → Type 0

@@ -11,8 +11,14 @@ use Rattle.ec20.specs.declared.Judged.the-variants.{Fine}
 use Rattle.ec20.specs.Devices.{Device}
 use Rattle.ec20.specs.Exchange.{swapped, exchanged, sizeFault, placeFault, judgeExchange, exchangeIf, exchangeFor}
 use Rattle.ec20.specs.Move.{Block, Pool}
-use Rattle.moving.specs.Rename.{exchangeBy}
+use Rattle.blocks.proofs.Swapped.{swap-twice, swap-stays}
+use Rattle.blocks.specs.Apart.{Apart}
+use Rattle.moving.specs.Rename.{Swap, exchangeBy}
 use Rattle.moved.proofs.Taken.{Taken, block-fine, block-off-work, placed}
+
+-- the exchange renames the D numbers, and is its own inverse
+pub is-swap : (v : Device) (b : Block) (q : ℕ) → Apart v b q → Swap (swapped b q) (v .words)
+is-swap v b q two = record { twice = swap-twice v b q two; stays = swap-stays v b q two }
 
 -- the exchanged table is the one whose word i is the word that i is renamed to
 pub exchanged-by : (b : Block) (q : ℕ) (d : List ℤ) → exchanged b q d ≡ exchangeBy (swapped b q) d

@@ -15,8 +15,8 @@ use Rattle.ec20.specs.Move.{Block, block, partly, touches, movedNumber}
 use Rattle.ec20.specs.Operands.{allowed, inWork}
 use Rattle.ec20.specs.Table.{isWritten}
 use Rattle.moving.specs.Rename.{renameOperand, Along}
-use Rattle.moved.specs.Placed.{Apart}
-use Rattle.moved.proofs.Swapped.{clear, not-meets, swap-block, swap-out}
+use Rattle.blocks.specs.Apart.{Apart}
+use Rattle.blocks.proofs.Swapped.{clear, not-meets, swap-block, swap-out}
 use Rattle.moved.proofs.Along.{Fair, fair, goes-along, moved-swapped}
 use Rattle.moved.proofs.Bytes.{movedOperand}
 use Rattle.ec20.proofs.InD.{isWord, at-word, extent-in, other-number, not-in-D}

@@ -1,6 +1,5 @@
 -- The moved file is the renamed program. Read Moved first; what it rests on stands before it.
--- Numbers: the exchange of block and place, and extents that go along
-pub mod Swapped
+-- Numbers: extents that go along
 pub mod Along
 -- Bytes: the moved file, record by record
 pub mod Bytes

@@ -13,9 +13,8 @@ use Rattle.ec20.specs.File.{byteAt}
 use Rattle.ec20.specs.Move.{Block, Pool, move, moveFor, moveOf}
 use Rattle.moved.specs.Moves.{Moves}
 use Rattle.moved.proofs.Accepted.{moved-program, moved-answer}
-use Rattle.moved.proofs.Exchanged.{exchange-done}
+use Rattle.moved.proofs.Exchanged.{is-swap, exchange-done}
 use Rattle.moved.proofs.Program.{program-whole}
-use Rattle.moved.proofs.Swapped.{is-swap}
 use Rattle.moved.proofs.Taken.{taken, placed}
 
 -- Of every device whose D numbers fit four bytes: if its mover answers of the file f with the place at q and leaves the file g, then g is f with

@@ -19,7 +19,8 @@ use Rattle.ec20.specs.Move.{Block}
 use Rattle.ec20.specs.Table.{rowOf, formContact, formJoin, formBranch, formCoil, formCompare, formTimer, formFor, formNext, formJump, formLabel, formEnd, formThree, formTwo, formOne}
 use Rattle.moving.specs.Rename.{renameOperand, renameRec, renameInstr, renameProgram, Along, Whole}
 use Rattle.refusals.specs.Records.{Operand-at, first, second, third}
-use Rattle.moved.specs.Placed.{Apart, Placed}
+use Rattle.blocks.specs.Apart.{Apart}
+use Rattle.moved.specs.Placed.{Placed}
 use Rattle.moved.proofs.Fit.{Fit, along, bare-same}
 use Rattle.moved.proofs.Records.{fit}
 use Rattle.moved.proofs.Rows.{hasBare, bare-first, timer-both, three-words, two-words, one-word}

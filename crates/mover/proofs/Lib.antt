@@ -1,6 +1,4 @@
--- The move by its cases; then the table: each line as the mover judges it and as the table says it, and what a reader expects of the mover.
+-- The move by its cases.
 mod Judging
 mod Placing
 mod Moving
-pub mod LineLaws
-pub mod Theorems

@@ -1,18 +1,29 @@
 // The command ninhalto: its arguments are the words of a call. The answer goes to standard output, what is told of it in words to standard error,
 // and what came of the call to descriptor 3, as a line: the status, with `replaced` after it where a file was.
 use calls::arguments;
+use calls::asked;
 use calls::results;
 use calls::results::Outcome;
+use calls::texts;
 
 const STATUS_FILENO: i32 = 3;
+
+// The command of a call.
+fn chosen(call: &[u8], out: i32, err: i32) -> Outcome {
+    let command = asked::command(call);
+    if commands::scans(command) {
+        return commands::run(command, call, out, err);
+    }
+    file_commands::run(command, call, out, err)
+}
 
 // The call is the first n bytes, where it fits.
 fn run(call: &[u8], n: usize) -> Outcome {
     if n > call.len() {
-        io::write_all(libc::STDERR_FILENO, b"ninhalto: the call is too long\n");
+        texts::say(libc::STDERR_FILENO, texts::TOO_LONG, 0, 0, 0, 0);
         return results::not_tried();
     }
-    commands::run(&call[0..n], libc::STDOUT_FILENO, libc::STDERR_FILENO)
+    chosen(&call[0..n], libc::STDOUT_FILENO, libc::STDERR_FILENO)
 }
 
 fn main() {

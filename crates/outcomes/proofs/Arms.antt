@@ -53,9 +53,6 @@ module _ (f : List ℕ) (i n k w h : ℕ) (key : n ≡ k) (wide : w ≡ widthOf 
   pub value-fits : mag (held (r .value)) < half w
   value-fits = rw (value-is, ← by) (bounded .value-fits)
 
-  pub second-fits : mag (r .second) < half w
-  second-fits = rw (← by) (bounded .second-fits)
-
   pub flags-fit : (r .zero < 2) × (r .above < 2) × (r .below < 2)
   flags-fit = (bounded .zero-bit, bounded .above-bit, bounded .below-bit)
 
@@ -96,3 +93,10 @@ pub of-two : (f : List ℕ) (i k w h : ℕ) (x y m : List ℕ) (d tv : List ℤ)
     → (s t : List ℕ) → r ≡ computeOf k h u (loadOf w (secondOf f k i) (memory x y m s t d tv))
 of-two f i k w h x y m d tv u second fits read e s t =
     e ∙ ap (computeOf k h u) (said w64 fits (read s t) ∙ ap (λ (o : Operand). loadOf w o (memory x y m s t d tv)) second)
+
+-- what the first source reads, handed on to another function
+pub handed : (w : ℕ) (x y m : List ℕ) (d tv : List ℤ) {a o : Operand} {u : ℤ}
+    → a ≡ o → mag u < 2 ^ 63 → ((s t : List ℕ) → u ≡ loadOf w a (memory x y m s t d tv)) → mag u < half w
+    → ((s t : List ℕ) → held u ≡ loadOf w o (memory x y m s t d tv)) × (mag (held u) < half w)
+handed w x y m d tv {u = u} first fits read range =
+    (λ s t. said w64 fits (read s t) ∙ ap (λ (o : Operand). loadOf w o (memory x y m s t d tv)) first, rw (said w64 {z = u} fits refl) range)

@@ -1,6 +1,7 @@
 -- What a word instruction with flow does: the error it ends in, and what it stores.
 use Prim.Native.Nat.{ℕ, _+_, _<_, _≤_}
 use mathlib.Core.List.{List}
+use mathlib.Core.Logic.{_⊎_}
 use mathlib.Core.Path.{_≡_}
 use lib.Dec.{eqb}
 use lib.ListN.{length}
@@ -8,6 +9,7 @@ use Rattle.ec20.specs.Basics.{pick}
 use Rattle.ec20.specs.Code.{noOperand}
 use Rattle.ec20.specs.File.{operandAt}
 use Rattle.ec20.specs.Memory.{Memory}
+use Rattle.ec20.specs.Numbers.{half}
 use Rattle.ec20.specs.Step.{widthOf, outcomeOf}
 use Rattle.ec20.specs.Table.{rowOf, formThree, formTwo}
 use Rattle.ec20.specs.Words.{storeAll}
@@ -20,6 +22,11 @@ pub record WordAt (w n i : ℕ) (f : List ℕ) : Type 0 where
   pub width : widthOf n ≡ w
   pub near : i < 50000
   pub room : i + 20 ≤ length f
+
+-- number n is DIV or DDIV, and h is one more than the largest number of w bits
+pub record Divides (n w h : ℕ) : Type 0 where
+  pub number : (n ≡ 35) ⊎ (n ≡ 52)
+  pub by : h ≡ half w
 
 -- the second source of the record at byte i: none, but where the table has two
 abbrev pub secondOf : List ℕ → ℕ → ℕ → Operand

@@ -1,10 +1,6 @@
-// What the command prints: answers, refusals with their reason in words, records by their instruction's name, D words as ranges, as runs and as a
-// picture, and the story of the mixer. Nothing is promised beyond safety.
-mod meanings;
-pub mod names;
-pub mod out;
+// What the command prints of programs and of D words: answers, refusals with their reason in words and the instruction's name, runs of D words and a
+// picture of them all. The texts are those of calls::texts. Nothing is promised beyond safety.
+mod names;
 pub mod picture;
-pub mod ranges;
 pub mod report;
 pub mod spans;
-pub mod story;

@@ -1,64 +1,39 @@
 // Answers and refusals: a line to `out`, and what a refusal means to `err`.
-use crate::meanings;
 use crate::names;
-use crate::out as text;
-use crate::ranges;
+use crate::spans;
 use calls::results;
 use calls::results::Outcome;
+use calls::texts;
 use ec20::Report;
 
 pub fn accepted(records: usize, steps: usize, out: i32, err: i32) -> Outcome {
-    let to = text::counted(out, b"accepted records ", records);
-    let to = text::counted(to, b" steps ", steps);
-    let to = text::say(to, b"\n");
+    let to = texts::say(out, texts::ACCEPTED, records, steps, 0, 0);
     results::answered(0, false, to, err)
 }
 
-// A scan that ended, or was stopped by the watchdog, and whose memory was written.
-pub fn scanned(how: &[u8], r: Report, out: i32, err: i32) -> Outcome {
-    let to = text::say(out, how);
-    let to = text::counted(to, b" steps ", r.steps);
-    let to = text::counted(to, b" record ", r.stop);
-    let to = text::counted(to, b" error ", r.error);
-    let to = text::counted(to, b" record ", r.at);
-    let to = text::say(to, b"\n");
+// A scan that ended, or was stopped by the watchdog, and whose memory was written. how: the text for it.
+pub fn scanned(how: usize, r: Report, out: i32, err: i32) -> Outcome {
+    let to = texts::say(out, how, r.steps, r.stop, r.error, r.at);
     results::answered(0, true, to, err)
 }
 
 pub fn moved(start: usize, length: usize, place: usize, out: i32, err: i32) -> Outcome {
-    let to = text::say(out, b"moved ");
-    let to = ranges::both(to, start, b" to ", place, length);
-    let to = text::say(to, b"\n");
+    let to = spans::say_both(out, texts::MOVED, start, place, length);
     results::answered(0, true, to, err)
 }
 
 pub fn exchanged(start: usize, length: usize, place: usize, out: i32, err: i32) -> Outcome {
-    let to = text::say(out, b"exchanged ");
-    let to = ranges::both(to, start, b" with ", place, length);
-    let to = text::say(to, b"\n");
+    let to = spans::say_both(out, texts::EXCHANGED, start, place, length);
     results::answered(0, true, to, err)
 }
 
-fn line(number: usize, record: usize, out: i32, err: i32) -> Outcome {
-    let to = text::counted(out, b"refused ", number);
-    let to = text::counted(to, b" record ", record);
-    let to = text::say(to, b"\n");
-    results::answered(1, false, to, err)
-}
-
-// The name of the file that is told, and the number.
-fn head(err: i32, path: &[u8], number: usize) -> i32 {
-    let to = text::say(err, path);
-    text::counted(to, b": refusal ", number)
-}
-
-// The record, if one is told, with its instruction's name.
+// The number, with the record, if one is told, and its instruction's name: 2 to 7 and 13 are told at a record.
 fn place(to: i32, file: &[u8], number: usize, record: usize) -> i32 {
-    if meanings::tells_record(number) {
-        let to = text::counted(to, b" at record ", record);
+    if (2 <= number) & (number <= 7) | (number == 13) {
+        let to = texts::say(to, texts::REFUSAL_AT, number, record, 0, 0);
         return names::say_name(to, file, record);
     }
-    to
+    texts::say(to, texts::REFUSAL, number, 0, 0, 0)
 }
 
 // path: the name of the file that is told; file: the program file, in which the record stands.
@@ -70,29 +45,39 @@ pub fn refused(
     out: i32,
     err: i32,
 ) -> Outcome {
-    let outcome = line(number, record, out, err);
-    let to = head(err, path, number);
-    let to = place(to, file, number, record);
-    let to = text::say(to, b": ");
-    let to = meanings::meaning(to, number);
-    text::say(to, b"\n");
+    let to = texts::say(out, texts::REFUSED, number, record, 0, 0);
+    let outcome = results::answered(1, false, to, err);
+    let to = place(texts::put(err, path), file, number, record);
+    let means = std::num::wrapping_add_usize(texts::REFUSAL_AT, number);
+    texts::say(to, means, 0, 0, 0, 0);
     outcome
 }
 
-// The place of an exchange is named in the call, so that its 14 means another thing.
+// The place of an exchange is named in the call, so that its 14 means another thing, and it takes no elapsed units.
 pub fn refused_exchange(path: &[u8], number: usize, record: usize, out: i32, err: i32) -> Outcome {
-    let outcome = line(number, record, out, err);
-    let to = head(err, path, number);
-    let to = text::say(to, b": ");
-    let to = meanings::meaning_exchange(to, number);
-    text::say(to, b"\n");
+    let to = texts::say(out, texts::REFUSED, number, record, 0, 0);
+    let outcome = results::answered(1, false, to, err);
+    let to = texts::put(err, path);
+    let to = texts::say(to, texts::REFUSAL, number, 0, 0, 0);
+    let mut means = std::num::wrapping_add_usize(texts::REFUSAL_AT, number);
+    if number == 9 {
+        means = texts::EXCHANGE_9;
+    }
+    if number == 14 {
+        means = texts::EXCHANGE_14;
+    }
+    texts::say(to, means, 0, 0, 0, 0);
     outcome
+}
+
+// A record of the mixer's program reaches over the edge of the block.
+pub fn torn(to: i32, file: &[u8], number: usize, record: usize) -> i32 {
+    let to = texts::say(to, texts::TORN, number, record, 0, 0);
+    let to = names::say_name(to, file, record);
+    texts::say(to, texts::TORN_APART, 0, 0, 0, 0)
 }
 
 pub fn usage(err: i32) -> Outcome {
-    text::say(
-        err,
-        b"usage: ninhalto check FILE, map [--picture] FILE, scan FILE MEMORY ELAPSED [BUDGET], move FILE START LENGTH POOLSTART POOLEND, exchange MEMORY START LENGTH PLACE, trial OLD START LENGTH POOLSTART POOLEND MEMORY SCANS, demo, or help\n",
-    );
+    texts::say(err, texts::USAGE, 0, 0, 0, 0);
     results::not_tried()
 }

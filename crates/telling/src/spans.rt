@@ -1,6 +1,41 @@
-// The D words by their marks: a line for each longest run of words with the same marks.
+// Runs of D words, and those of a map by their marks: a line for each longest run of words with the same marks.
 ghost use Prim.Native.Nat.{_≤_, _<_};
-use crate::ranges;
+use calls::texts;
+
+// A text that tells a run: D100-D109, or of one word D100, which is the text after it.
+pub fn say_run(to: i32, told: usize, first: usize, length: usize) -> i32 {
+    if length == 1 {
+        return texts::say(to, std::num::wrapping_add_usize(told, 1), first, 0, 0, 0);
+    }
+    texts::say(to, told, first, last(first, length), 0, 0)
+}
+
+// The last word of a run.
+fn last(first: usize, length: usize) -> usize {
+    std::num::wrapping_sub_usize(std::num::wrapping_add_usize(first, length), 1)
+}
+
+// The same of two runs of a length.
+pub fn say_both(to: i32, told: usize, start: usize, place: usize, length: usize) -> i32 {
+    if length == 1 {
+        return texts::say(
+            to,
+            std::num::wrapping_add_usize(told, 1),
+            start,
+            place,
+            0,
+            0,
+        );
+    }
+    texts::say(
+        to,
+        told,
+        start,
+        last(start, length),
+        place,
+        last(place, length),
+    )
+}
 
 // 1 for a word that is read, and 2 more for one that is written.
 pub fn marks(read: &[u8; 1000], written: &[u8; 1000], i: usize) -> usize {
@@ -22,13 +57,18 @@ pub fn run_end(read: &[u8; 1000], written: &[u8; 1000], i: usize, k: usize) -> u
     end
 }
 
+// The text of a mark: of none it is empty.
+fn marked(k: usize) -> usize {
+    std::num::wrapping_add_usize(texts::MARKED, std::num::wrapping_add_usize(k, k))
+}
+
 pub fn show(out: i32, read: &[u8; 1000], written: &[u8; 1000]) -> i32 {
     let mut to = out;
     let mut i = 0;
     while i < 8000 {
         let k = marks(read, written, i);
         let end = run_end(read, written, i, k);
-        to = ranges::run(to, i, end - i, k);
+        to = say_run(to, marked(k), i, end - i);
         i = end;
     }
     to

@@ -1,9 +1,18 @@
 // The D numbers that a move changed, counted in the bytes of both programs.
 ghost use Prim.Native.Nat.{_≤_};
 
-// Byte i, 0 where there is none.
-fn byte_at(b: &[u8], i: usize) -> u8 {
-    if i < b.len() { b[i] } else { 0 }
+// 1 where byte i differs, and 0 where it does not, or one of them has no such byte.
+fn differs(old: &[u8], new: &[u8], i: usize) -> usize
+    ensures { λ r. ⌜ r ≤ 1 ⌝ }
+{
+    if i < old.len() {
+        if i < new.len() {
+            if old[i] != new[i] {
+                return 1;
+            }
+        }
+    }
+    0
 }
 
 // The length of a file in the buffer.
@@ -13,17 +22,6 @@ fn held(n: usize) -> usize
     if n < 65536 { n } else { 65536 }
 }
 
-// How far a comparison goes on after a byte, and what it adds to a count.
-fn past(differs: bool) -> usize
-    ensures { λ r. ⌜ (1 ≤ r) × (r ≤ 4) ⌝ }
-{
-    if differs { 4 } else { 1 }
-}
-
-fn one_if(differs: bool) -> usize {
-    if differs { 1 } else { 0 }
-}
-
 // How many D numbers the move changed. The bytes that it changes are the two lowest of a number, and six bytes on stands the next number at
 // the earliest: four bytes after a change is past the one and not yet at the other.
 pub fn changed(old: &[u8], new: &[u8]) -> usize {
@@ -31,9 +29,9 @@ pub fn changed(old: &[u8], new: &[u8]) -> usize {
     let mut count: usize = 0;
     let mut i: usize = 0;
     while i < n {
-        let differs = byte_at(old, i) != byte_at(new, i);
-        count = std::num::wrapping_add_usize(count, one_if(differs));
-        i += past(differs);
+        let more = differs(old, new, i);
+        count = std::num::wrapping_add_usize(count, more);
+        i += 1 + 3 * more;
     }
     count
 }

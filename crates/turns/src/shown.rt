@@ -1,71 +1,67 @@
 // What a trial prints: the move, a line for a scan, how far it is, the sum of it.
-use crate::entries;
 use crate::turn;
 use crate::turn::Answer;
 use crate::turn::Turn;
-use telling::out;
-use telling::ranges;
+use calls::results;
+use calls::results::Outcome;
+use calls::texts;
+use telling::spans;
 
 pub fn moved(to: i32, start: u32, length: u32, place: usize, changed: usize) -> i32 {
-    let to = ranges::both(to, start as usize, b" to ", place, length as usize);
-    let to = out::counted(to, b", D numbers changed ", changed);
-    out::say(to, b"\n")
-}
-
-fn how(to: i32, kind: usize) -> i32 {
-    match kind {
-        0 => out::say(to, b" refused"),
-        1 => out::say(to, b" ended"),
-        _ => out::say(to, b" watchdog"),
-    }
+    let to = spans::say_both(to, texts::TRIED, start as usize, place, length as usize);
+    texts::say(to, texts::CHANGED, changed, 0, 0, 0)
 }
 
 fn answer(to: i32, a: Answer) -> i32 {
-    let to = how(to, a.kind);
-    let to = out::counted(to, b" steps ", a.steps);
-    let to = out::counted(to, b" record ", a.stop);
-    let to = out::counted(to, b" error ", a.error);
-    out::counted(to, b" record ", a.at)
+    let told = std::num::wrapping_add_usize(texts::ANSWER, a.kind);
+    texts::say(to, told, a.steps, a.stop, a.error, a.at)
+}
+
+// The entry of the memory at a byte of its file: a D word, a T value, or a table of bits. Nothing past its last byte.
+fn memory(to: i32, byte: usize) -> i32 {
+    if byte >= 16890 {
+        return to;
+    }
+    if byte >= 16378 {
+        return texts::say(to, texts::MEMORY + 6, (byte - 16378) / 2, byte, 0, 0);
+    }
+    if byte >= 378 {
+        return texts::say(to, texts::MEMORY + 5, (byte - 378) / 2, byte, 0, 0);
+    }
+    let mut table = texts::MEMORY + 4;
+    if byte < 346 {
+        table = texts::MEMORY + 3;
+    }
+    if byte < 314 {
+        table = texts::MEMORY + 2;
+    }
+    if byte < 64 {
+        table = texts::MEMORY + 1;
+    }
+    if byte < 32 {
+        table = texts::MEMORY;
+    }
+    texts::say(to, table, byte, 0, 0, 0)
 }
 
 fn other_answer(to: i32, t: Turn) -> i32 {
     if turn::same_answer(t.old, t.new) {
         return to;
     }
-    let to = out::say(to, b", new");
-    answer(to, t.new)
-}
-
-fn other_memory(to: i32, apart: usize) -> i32 {
-    if apart >= 16890 {
-        return to;
-    }
-    let to = out::say(to, b", memory first at ");
-    entries::say_at(to, apart)
+    answer(texts::say(to, texts::NEW, 0, 0, 0, 0), t.new)
 }
 
 // What differs: the new program's answer, where it is another, and the first entry at which the memories are not the same, as the old
 // program numbers it.
-fn differs(to: i32, t: Turn) -> i32 {
-    let to = out::say(to, b" differs");
-    let to = other_answer(to, t);
-    let to = other_memory(to, t.apart);
-    out::say(to, b"\n")
-}
-
 fn line(to: i32, k: u32, t: Turn, alike: bool) -> i32 {
-    let to = out::counted(to, b"scan ", k as usize + 1);
+    let to = texts::say(to, texts::SCAN, k as usize + 1, 0, 0, 0);
     let to = answer(to, t.old);
     if alike {
-        return out::say(to, b" alike\n");
+        return texts::say(to, texts::ALIKE, 0, 0, 0, 0);
     }
-    differs(to, t)
-}
-
-fn far(err: i32, k: u32, n: u32) -> i32 {
-    let to = out::counted(err, b"", k as usize + 1);
-    let to = out::counted(to, b" of ", n as usize);
-    out::say(to, b" scans\n")
+    let to = texts::say(to, texts::DIFFERS, 0, 0, 0, 0);
+    let to = other_answer(to, t);
+    texts::say(memory(to, t.apart), texts::LINE, 0, 0, 0, 0)
 }
 
 // Where the lines of a trial go, how many of its scans differ, and what was counted since it was told how far it is.
@@ -75,9 +71,10 @@ pub struct Sum {
     pub work: usize,
 }
 
-pub fn begun(out: i32) -> Sum {
+// A sum of which nothing is told yet.
+pub fn begun(to: i32) -> Sum {
     Sum {
-        to: out,
+        to,
         differ: 0,
         work: 0,
     }
@@ -90,52 +87,51 @@ fn progress(err: i32, work: usize, k: u32, n: u32, steps: usize) -> usize {
     if more < 50_000_000 {
         return more;
     }
-    far(err, k, n);
+    texts::say(err, texts::FAR, k as usize + 1, n as usize, 0, 0);
     0
 }
 
-// Scan k of n, from 0. The first 20 are told, and each that differs.
+// Scan k of n, from 0. The first 20 are told, and each that differs. Alike: the answers are the same, and so are the memories after exchange.
 pub fn scan(s: Sum, k: u32, n: u32, t: Turn, err: i32) -> Sum {
     let old = t.old;
     let work = progress(err, s.work, k, n, old.steps);
     let differ = s.differ;
-    if !turn::alike(t) {
-        let to = line(s.to, k, t, false);
-        let more = std::num::wrapping_add_u32(differ, 1);
+    if turn::same_answer(t.old, t.new) & (t.apart == 16890) {
+        if k < 20 {
+            let to = line(s.to, k, t, true);
+            return Sum { to, differ, work };
+        }
         return Sum {
-            to,
-            differ: more,
+            to: s.to,
+            differ,
             work,
         };
     }
-    if k < 20 {
-        let to = line(s.to, k, t, true);
-        return Sum { to, differ, work };
-    }
+    let to = line(s.to, k, t, false);
+    let more = std::num::wrapping_add_u32(differ, 1);
     Sum {
-        to: s.to,
-        differ,
+        to,
+        differ: more,
         work,
     }
 }
 
-fn scans(to: i32, n: u32) -> i32 {
-    let to = out::counted(to, b"", n as usize);
+// The last line, after n scans.
+pub fn ended(n: u32, s: Sum, err: i32) -> Outcome {
+    let differ = s.differ;
+    let mut scans = texts::SCANS + 1;
     if n == 1 {
-        return out::say(to, b" scan, ");
+        scans = texts::SCANS;
     }
-    out::say(to, b" scans, ")
-}
-
-// The last line.
-pub fn total(to: i32, n: u32, differ: u32) -> i32 {
-    let to = scans(to, n);
+    let to = texts::say(s.to, scans, n as usize, 0, 0, 0);
     if differ == 0 {
-        return out::say(to, b"all alike\n");
+        let to = texts::say(to, texts::DIFFER, 0, 0, 0, 0);
+        return results::answered(0, false, to, err);
     }
-    let to = out::counted(to, b"", differ as usize);
+    let mut differing = texts::DIFFER + 2;
     if differ == 1 {
-        return out::say(to, b" differs\n");
+        differing = texts::DIFFER + 1;
     }
-    out::say(to, b" differ\n")
+    let to = texts::say(to, differing, differ as usize, 0, 0, 0);
+    results::answered(1, false, to, err)
 }

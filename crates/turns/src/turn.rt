@@ -1,5 +1,4 @@
 // What came of a scan of each program.
-use ec20::Report;
 use ec20::Scanned;
 
 // What a scan answered. kind: 0 refused, 1 ended, 2 watchdog; where it is refused, steps is the number and stop the record.
@@ -18,20 +17,22 @@ pub struct Turn {
     pub apart: usize,
 }
 
-fn ran(kind: usize, r: Report) -> Answer {
-    Answer {
-        kind,
-        steps: r.steps,
-        stop: r.stop,
-        error: r.error,
-        at: r.at,
-    }
-}
-
 pub fn answer_of(s: Scanned) -> Answer {
     match s {
-        Scanned::Ended(r) => ran(1, r),
-        Scanned::Watchdog(r) => ran(2, r),
+        Scanned::Ended(r) => Answer {
+            kind: 1,
+            steps: r.steps,
+            stop: r.stop,
+            error: r.error,
+            at: r.at,
+        },
+        Scanned::Watchdog(r) => Answer {
+            kind: 2,
+            steps: r.steps,
+            stop: r.stop,
+            error: r.error,
+            at: r.at,
+        },
         Scanned::Refused { number, record } => Answer {
             kind: 0,
             steps: number,
@@ -48,9 +49,4 @@ pub fn same_answer(a: Answer, b: Answer) -> bool {
         & (a.stop == b.stop)
         & (a.error == b.error)
         & (a.at == b.at)
-}
-
-// The answers are the same, and so are the memories after exchange.
-pub fn alike(t: Turn) -> bool {
-    same_answer(t.old, t.new) & (t.apart == 16890)
 }

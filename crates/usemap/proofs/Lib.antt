@@ -1,3 +1,2 @@
--- The use map by its cases, and what a reader of the sentence expects of it.
+-- The use map by its cases.
 pub mod Laws
-pub mod Theorems

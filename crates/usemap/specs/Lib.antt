@@ -1,3 +1,2 @@
--- What the use map is made of, and which words a program uses.
+-- What the use map is made of.
 pub mod Maps
-pub mod Uses

@@ -4,6 +4,7 @@
 mod lines;
 mod room;
 
+use calls::asked;
 use calls::results::Outcome;
 use calls::text;
 use check::same;
@@ -41,11 +42,20 @@ fn tell_it(before: &[u8], after: &[u8], fd: i32) {
     }
 }
 
+// The command of a call, as the program ninhalto chooses it.
+fn chosen(call: &[u8], out: i32, err: i32) -> Outcome {
+    let command = asked::command(call);
+    if commands::scans(command) {
+        return commands::run(command, call, out, err);
+    }
+    file_commands::run(command, call, out, err)
+}
+
 // A call over a copy of a file.
 fn run_over(before: &[u8], after: &[u8], call: &[u8]) {
     room::put(before, b"it");
     let fd = os::open_append(b"it");
-    tell(commands::run(call, STDOUT_FILENO, STDOUT_FILENO));
+    tell(chosen(call, STDOUT_FILENO, STDOUT_FILENO));
     tell_it(before, after, fd);
     libc::close(fd);
 }
@@ -55,9 +65,9 @@ fn run(line: &[u8]) {
     let before = text::word(line, 0);
     let call = text::rest(line, 2);
     if same(before, b"-") {
-        tell(commands::run(call, STDOUT_FILENO, STDOUT_FILENO));
+        tell(chosen(call, STDOUT_FILENO, STDOUT_FILENO));
     } else if same(before, b"closed") {
-        tell(commands::run(call, CLOSED, STDOUT_FILENO));
+        tell(chosen(call, CLOSED, STDOUT_FILENO));
     } else {
         run_over(before, text::word(line, 1), call);
     }

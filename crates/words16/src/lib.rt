@@ -41,18 +41,7 @@ pub fn act16(
             operands::flags(r, sm);
             0
         }
-        35 => {
-            let v = operands::load(16, records::operand_at(f, i + 8), x, y, m, d, tv);
-            let r = arith::div(u, v, 32768);
-            if r.error != 0 {
-                return r.error;
-            }
-            let t = records::operand_at(f, i + 14);
-            operands::store(16, t, r.value, y, m, d);
-            let words = records::wide(instructions::third_at(rows, n)) / 2;
-            operands::second(16, t, words, r, y, m, d);
-            0
-        }
+        35 => quotients::divided16(rows, n, i, u, f, x, y, m, d, tv),
         36 => {
             let r = arith::sqt(u);
             if r.error != 0 {

@@ -47,18 +47,7 @@ pub fn act32(
             operands::store(32, records::operand_at(f, i + 14), r.value, y, m, d);
             0
         }
-        52 => {
-            let v = operands::load(32, records::operand_at(f, i + 8), x, y, m, d, tv);
-            let r = arith::div(u, v, 2147483648);
-            if r.error != 0 {
-                return r.error;
-            }
-            let t = records::operand_at(f, i + 14);
-            operands::store(32, t, r.value, y, m, d);
-            let words = records::wide(instructions::third_at(rows, n)) / 2;
-            operands::second(32, t, words, r, y, m, d);
-            0
-        }
+        52 => quotients::divided32(rows, n, i, u, f, x, y, m, d, tv),
         53 => {
             let r = arith::sqt(u);
             if r.error != 0 {

@@ -1,0 +1,218 @@
+// trial OLD START LENGTH POOLSTART POOLEND MEMORY SCANS: a move tried out in memory. Here is what comes ahead of the first scan: the files are read, the
+// program is moved in a copy, and the move is told. demo FILE MEMORY: the same for the mixer, after the story of it.
+use crate::mixer;
+use crate::scans;
+use calls::asked;
+use calls::numbers;
+use calls::text;
+use ec20::Moved;
+use memories::exchanges::Way;
+use telling::report;
+use turns::changes;
+use turns::shown;
+
+// A move of a program: the block and the pool, the scans that follow it, the word of the call that names the memory, and
+// whether the mixer's story comes first. Word 1 names the program. good: each is a number.
+pub struct Tried {
+    pub start: u32,
+    pub length: u32,
+    pub pool_start: u32,
+    pub pool_end: u32,
+    pub scans: u32,
+    pub memory_word: usize,
+    pub told: bool,
+    pub good: bool,
+}
+
+fn named(call: &[u8], err: i32) -> Tried {
+    let a = numbers::block_and_pool(call, err);
+    let scans = numbers::word(call, 7, numbers::SCANS, numbers::err_after(a.good, err));
+    Tried {
+        start: a.start,
+        length: a.length,
+        pool_start: a.pool_start,
+        pool_end: a.pool_end,
+        scans: scans.n,
+        memory_word: 6,
+        told: false,
+        good: a.good & scans.good,
+    }
+}
+
+// The mixer's block as it is, D100-D106, in the pool D300-D399, and 20 scans.
+fn mixers() -> Tried {
+    Tried {
+        start: 100,
+        length: 7,
+        pool_start: 300,
+        pool_end: 400,
+        scans: 20,
+        memory_word: 2,
+        told: true,
+        good: true,
+    }
+}
+
+// What a trial asks for by its words, or the demo.
+pub fn wanted(command: usize, call: &[u8], err: i32) -> Tried {
+    if command == asked::DEMO {
+        return mixers();
+    }
+    named(call, err)
+}
+
+// status: 0 where the scans follow, told at `to`; else what came of the call. n: the bytes of each program.
+pub struct Begun {
+    pub to: i32,
+    pub status: usize,
+    pub n: usize,
+    pub way: Way,
+}
+
+fn stopped(status: usize) -> Begun {
+    Begun {
+        to: 0,
+        status,
+        n: 0,
+        way: Way {
+            start: 0,
+            length: 0,
+            place: 0,
+        },
+    }
+}
+
+// A memory file of another size is refused by 9, which is told where none of 1 to 8 holds, before 10 to 14. sized: whether it has the size of one.
+fn refuse(
+    call: &[u8],
+    old: &[u8],
+    memory_word: usize,
+    sized: bool,
+    number: usize,
+    record: usize,
+    out: i32,
+    err: i32,
+) -> Begun {
+    if sized | (number < 9) {
+        let o = report::refused(text::word(call, 1), old, number, record, out, err);
+        return stopped(o.status);
+    }
+    let o = report::refused(text::word(call, memory_word), old, 9, 0, out, err);
+    stopped(o.status)
+}
+
+// The bytes of the old program and the same again, which are moved.
+fn move_copy(
+    call: &[u8],
+    old: &[u8],
+    new: &mut [u8],
+    sized: bool,
+    t: Tried,
+    out: i32,
+    err: i32,
+) -> Begun {
+    match mover::move_block(new, t.start, t.length, t.pool_start, t.pool_end) {
+        Moved::Refused { number, record } => {
+            refuse(call, old, t.memory_word, sized, number, record, out, err)
+        }
+        Moved::To { place } => {
+            if sized {
+                let changed = changes::changed(old, new);
+                let to = shown::moved(out, t.start, t.length, place, changed);
+                let n = old.len();
+                // A place is a number of a D word.
+                let mut new_start: u32 = 0;
+                if place < 8000 {
+                    new_start = place as u32;
+                }
+                Begun {
+                    to,
+                    status: 0,
+                    n,
+                    way: Way {
+                        start: t.start,
+                        length: t.length,
+                        place: new_start,
+                    },
+                }
+            } else {
+                refuse(call, old, t.memory_word, sized, 9, 0, out, err)
+            }
+        }
+    }
+}
+
+// The bytes of the old program, and a buffer for the new one.
+fn copied(
+    call: &[u8],
+    old: &[u8],
+    new: &mut [u8],
+    sized: bool,
+    t: Tried,
+    out: i32,
+    err: i32,
+) -> Begun {
+    let n = old.len();
+    if n > new.len() {
+        return stopped(2);
+    }
+    bytes::copy(old, new);
+    move_copy(call, old, &mut new[0..n], sized, t, out, err)
+}
+
+// The story ahead of it, where it is to be told.
+fn told(
+    call: &[u8],
+    old: &[u8],
+    new: &mut [u8],
+    sized: bool,
+    t: Tried,
+    out: i32,
+    err: i32,
+) -> Begun {
+    if t.told {
+        let b = mixer::begin(text::word(call, 1), old, new, out, err);
+        if b.status != 0 {
+            return stopped(b.status);
+        }
+        return copied(call, old, new, sized, t, b.to, err);
+    }
+    copied(call, old, new, sized, t, out, err)
+}
+
+// The old program is the first n bytes of its buffer.
+fn part(
+    call: &[u8],
+    old: &[u8],
+    n: usize,
+    new: &mut [u8],
+    sized: bool,
+    t: Tried,
+    out: i32,
+    err: i32,
+) -> Begun {
+    if n > old.len() {
+        return stopped(2);
+    }
+    told(call, &old[0..n], new, sized, t, out, err)
+}
+
+// Afterwards the old program is at the start of its buffer, the new one of its own, and the memory file of its own.
+pub fn begin(
+    call: &[u8],
+    t: Tried,
+    old: &mut [u8; 65536],
+    new: &mut [u8; 65536],
+    memory: &mut [u8; 65536],
+    out: i32,
+    err: i32,
+) -> Begun {
+    if !t.good {
+        return stopped(2);
+    }
+    let s = scans::load(call, t.memory_word, err, old, memory);
+    if !s.whole {
+        return stopped(2);
+    }
+    part(call, old, s.program, new, s.memory == 16890, t, out, err)
+}

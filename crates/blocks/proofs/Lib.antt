@@ -1,0 +1,2 @@
+-- The exchange of the numbers of block and place.
+pub mod Swapped

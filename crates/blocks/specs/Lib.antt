@@ -1,0 +1,2 @@
+-- Block and place apart.
+pub mod Apart

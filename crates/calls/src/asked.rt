@@ -1,0 +1,53 @@
+// Which command a call asks for.
+use crate::text;
+use check::same;
+
+// The commands, by their place in the list of names; a map as a picture has none of its own.
+pub const CHECK: usize = 0;
+
+pub const MAP: usize = 1;
+
+pub const MOVE: usize = 2;
+
+pub const EXCHANGE: usize = 3;
+
+pub const SCAN: usize = 4;
+
+pub const TRIAL: usize = 5;
+
+pub const DEMO: usize = 6;
+
+pub const NONE: usize = 7;
+
+pub const PICTURE: usize = 8;
+
+// Whether a call of so many words is one of the command.
+fn fits(command: usize, count: usize) -> bool {
+    match command {
+        0 => count == 2,
+        1 => count == 2,
+        2 => count == 6,
+        3 => count == 5,
+        4 => (count == 4) | (count == 5),
+        5 => count == 8,
+        6 => count == 3,
+        _ => false,
+    }
+}
+
+// The command of a call, by its first word and how many there are.
+pub fn command(call: &[u8]) -> usize {
+    let command = text::which(
+        text::word(call, 0),
+        b"check\0map\0move\0exchange\0scan\0trial\0demo\0",
+        NONE,
+    );
+    let count = text::count(call);
+    if fits(command, count) {
+        return command;
+    }
+    if (command == MAP) & (count == 3) & same(text::word(call, 1), b"--picture") {
+        return PICTURE;
+    }
+    NONE
+}
