@@ -51,7 +51,7 @@ else
 fi
 
 # The speed of short loops hangs on the place of the code (docs/BENCHMARKS.md). So the library stands first, whole, and main not ahead of it; and
-# run-check and run-move, which search in short loops, set `aligned` to give those of C the best place. Then no place hangs on a driver's length.
+# run-check, run-move and run-answer, whose loops are short, set `aligned` to give those of C the best place. Then no place hangs on a driver's length.
 compile() {
     made=$1
     shift

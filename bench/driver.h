@@ -1,4 +1,4 @@
-/* What the three drivers share: the sides that are compared, the file, the clock and the turns, the files of cases. To be included first. */
+/* What the drivers share: the sides that are compared, the file, the clock and the turns, the files of cases. To be included first. */
 #define _POSIX_C_SOURCE 199309L
 #include "check.h"
 #include <stdio.h>

@@ -1,16 +1,16 @@
-/* Ninhalto for C: check, scan, use map, move and exchange of programs of the EC20 series.
+/* Ninhalto for C: check, scan, use map, move and exchange of programs of the EC20 series, and answers to Modbus requests.
 
    The library is target/staticlib/libhost.a, which `rt staticlib host` proves and writes, for x86-64. Each function is proved to do, for every
-   input, what its definition says (crates/host/src, crates/ec20/specs); the words here say the same in short.
+   input, what its definition says (crates/host/src, crates/ec20/specs, crates/modbus/specs); the words here say the same in short.
 
    Of every function:
-   - It asks nothing of file, tables and numbers: any bytes, any lengths, any values. What does not fit is refused.
+   - It asks nothing of file, request, tables and numbers: any bytes, any lengths, any values. What does not fit is refused.
    - A pointer and the size_t after it are one lent part: so many bytes (of d and tv: so many words) can be read there, and written if it is not
      const. No pointer is NULL, also where the length is 0. A word stands at an even address, a size_t at a multiple of 8.
    - Lent parts that are written overlap no other. x and file, which are only read, may be one.
    - It writes what is named as written, and nothing else. It does not allocate, keeps nothing between calls, has no global state, calls memcpy
      and memset and nothing else, and always ends. It may be called from any thread, over different lent parts at the same time.
-   - Stack of the x86-64 code, measured (robustness/stack.c), in bytes: the check 3,776, a scan 39,456, the map 8,624, the move 5,584, the exchange 56. It is
+   - Stack of the x86-64 code, measured (robustness/stack.c), in bytes: the check 3,776, a scan 39,456, the map 8,624, the move 5,584, the exchange 56, the answer 312. It is
      not proved. Only the check's walk over loops calls itself, for each loop in a loop, at most 8 deep; a file of the deepest such calls was measured.
 
    number: 0, or the number of a refusal. at: the record told, counted from 0; 0 where there is none.
@@ -30,9 +30,11 @@
     12  the block meets WORK                                                                         0
     13  an operand's words are partly in the block                                                   the first
     14  no place                                                                                     0
+    16  the station is not from 1 to 247, or the reply buffer is under 256 bytes                     0
 
-   The check gives 1 to 8, the scan 1 to 9, the map 1 to 8, the move 1 to 8 and 10 to 14, the exchange 9, 10, 12 and 14; the first that holds in
-   this order (2, 3 and 4: of the first record that breaks one of them). A refused call leaves file and tables as they were. */
+   The check gives 1 to 8, the scan 1 to 9, the map 1 to 8, the move 1 to 8 and 10 to 14, the exchange 9, 10, 12 and 14, the answer
+   9 and 16; the first that holds in this order (2, 3 and 4: of the first record that breaks one of them). A refused call leaves file, tables and
+   reply buffer as they were. */
 #ifndef NINHALTO_H
 #define NINHALTO_H
 
@@ -54,6 +56,12 @@ enum {
     NINHALTO_TV = 256,
     NINHALTO_MAP = 1000
 };
+
+/* The least size of a reply buffer, in bytes. */
+enum { NINHALTO_REPLY = 256 };
+
+/* What the answer tells as kind. */
+enum { NINHALTO_ANSWER_REFUSED, NINHALTO_ANSWER_SILENT, NINHALTO_ANSWER_REPLY };
 
 /* What the scan tells, by place in told. */
 enum {
@@ -95,6 +103,18 @@ void ninhalto_move(uint8_t *file, size_t file_size, uint32_t start, uint32_t len
 /* The exchange: the words of the block and those of the place, as long as the block, change places in the D table. Writes number and at and, unless
    refused, these words. It does not read a file: that the place is free is the move's to say. */
 void ninhalto_exchange(int16_t *d, size_t d_size, uint32_t start, uint32_t length, uint32_t place, size_t *number, size_t *at);
+
+/* The answer to a Modbus RTU request, over the lent M and D: coil n is Mn, register n is Dn. station: the own one, 1 to 247. frame: the bytes of one
+   request, CRC included. The functions are 1, 3, 5, 6, 15 and 16, with the quantities of the public protocol.
+   Writes number; kind; length, the bytes of the reply, 0 if there is none; these bytes at the start of the reply buffer, whose other bytes stay as they
+   were; and what the request writes in m or d.
+   - NINHALTO_ANSWER_SILENT: nothing is to be sent. The request is for another station, of a length that its function cannot have, or its CRC is wrong:
+     nothing is changed. Or it is for all stations, 0: then it is done if it is a write that would be no exception, and else changes nothing.
+   - NINHALTO_ANSWER_REPLY: the reply is to be sent. It may be an exception, the function with its highest bit on and a code, of which the first that
+     holds is told, and then nothing is changed: 01 another function; 03 a quantity out of bounds, a byte count that is not the quantity's, or a
+     value of function 5 other than 0000 and FF00; 02 coils or registers outside M0 to M1999 or D0 to D7999, or a write that meets WORK. */
+void ninhalto_answer(uint32_t station, const uint8_t *frame, size_t frame_size, uint8_t *m, size_t m_size, int16_t *d, size_t d_size, uint8_t *reply,
+                     size_t reply_size, size_t *number, size_t *kind, size_t *length);
 
 #ifdef __cplusplus
 }

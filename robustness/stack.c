@@ -44,6 +44,24 @@ static void exchange(void) {
     ninhalto_exchange(d, NINHALTO_D, 100, 10, 200, &number, &at);
 }
 
+/* The most that a frame can write and read: 1,968 coils from 13 on, which is no multiple of 8, and 2,000 coils. */
+static void answer(void) {
+    static const uint8_t head[2][7] = {{1, 15, 0, 13, 1968 >> 8, 1968 & 255, 246}, {1, 1, 0, 0, 2000 >> 8, 2000 & 255}};
+    static uint8_t frame[255], reply[256];
+    for (int k = 0; k < 2; k++) {
+        size_t n = k ? 8 : 255;
+        uint16_t sum = 0xFFFF;
+        memcpy(frame, head[k], 7);
+        for (size_t i = 0; i < n - 2; i++) {
+            sum ^= frame[i];
+            for (int bit = 0; bit < 8; bit++) sum = sum & 1 ? sum >> 1 ^ 0xA001 : sum >> 1;
+        }
+        frame[n - 2] = (uint8_t)sum, frame[n - 1] = sum >> 8;
+        ninhalto_answer(1, frame, n, m, NINHALTO_M, d, NINHALTO_D, reply, sizeof reply, &number, &at, &other);
+        if (at != 2) exit(1);
+    }
+}
+
 /* Bytes used of a painted stack by a context that runs this. */
 static size_t used(void (*run)(void)) {
     static ucontext_t here, there;
@@ -75,18 +93,18 @@ static void deepest(void) {
     trailer[0] = 1, trailer[2] = RECORDS, trailer[4] = (uint8_t)size, trailer[5] = (uint8_t)(size >> 8);
 }
 
-static void (*const run[])(void) = {check, scan, plain_scan, map, move, exchange};
-static size_t most[6];
+static void (*const run[])(void) = {check, scan, plain_scan, map, move, exchange, answer};
+static size_t most[7];
 
 static void measure(void) {
-    for (int f = 0; f < 6; f++) {
+    for (int f = 0; f < 7; f++) {
         size_t more = used(run[f]) - used(nothing);
         if (more > most[f]) most[f] = more;
     }
 }
 
 int main(int words, char **word) {
-    static const char *const name[] = {"check", "scan", "scan_unbudgeted", "map", "move", "exchange"};
+    static const char *const name[] = {"check", "scan", "scan_unbudgeted", "map", "move", "exchange", "answer"};
     deepest();
     check();
     if (number) return 1;
@@ -101,6 +119,6 @@ int main(int words, char **word) {
         fclose(in);
         measure();
     }
-    for (int f = 0; f < 6; f++) printf("%s %zu\n", name[f], most[f]);
+    for (int f = 0; f < 7; f++) printf("%s %zu\n", name[f], most[f]);
     return 0;
 }

@@ -1,5 +1,5 @@
-/* A host in C: it checks a program, scans it, prints which words of a block it uses, moves the block, exchanges its words, and scans again. The two
-   scans do the same. The program stands in memory; a real host reads it from a file. */
+/* A host in C: it checks a program, scans it, answers a Modbus request, prints which words of a block it uses, moves the block, exchanges its words, and
+   scans again. The two scans do the same. The program stands in memory; a real host reads it from a file. */
 #include "../../include/ninhalto.h"
 #include <stdio.h>
 #include <string.h>
@@ -45,7 +45,7 @@ static void compose(uint8_t file[SIZE]) {
     put(file + 20 * RECORDS + 4, SIZE, 4);
 }
 
-/* ---- the five calls; each gives back the refusal, 0 for none */
+/* ---- the six calls */
 
 static size_t check(const uint8_t *file, size_t size) {
     size_t number, at, records, steps;
@@ -93,6 +93,20 @@ static void exchange(struct memory *c, size_t place) {
     printf("exchange: refusal %zu at %zu\n", number, at);
 }
 
+/* A master reads the first five words of the block: station 1, function 3, address, quantity, CRC. */
+static void answer(struct memory *c) {
+    static const uint8_t request[] = {0x01, 0x03, 0x00, 0x64, 0x00, 0x05, 0xc4, 0x16};
+    uint8_t reply[NINHALTO_REPLY];
+    size_t number, kind, length;
+    ninhalto_answer(1, request, sizeof request, c->m, NINHALTO_M, c->d, NINHALTO_D, reply, NINHALTO_REPLY, &number, &kind, &length);
+    if (kind == NINHALTO_ANSWER_REFUSED) printf("refused %zu\n", number);
+    if (kind == NINHALTO_ANSWER_SILENT) puts("silent");
+    if (kind != NINHALTO_ANSWER_REPLY) return;
+    printf("reply");
+    for (size_t i = 0; i < length; i++) printf(" %02x", reply[i]);
+    puts("");
+}
+
 static void words(const struct memory *c, size_t from) {
     for (size_t i = from; i < from + LENGTH; i++) printf("%d%c", c->d[i], i + 1 < from + LENGTH ? ' ' : '\n');
 }
@@ -110,6 +124,7 @@ int main(void) {
     after = before;
     scan(file, &before, told);
     words(&before, BLOCK);
+    answer(&before);
     map(file);
     size_t place = move(moved);
     if (check(moved, SIZE)) return 1;

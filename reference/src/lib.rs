@@ -1,5 +1,6 @@
 //! The independent reference of Ninhalto: check, scan, use map, move and exchange for
-//! programs of the EC20 series, written from document 01 alone.
+//! programs of the EC20 series, and answers to Modbus requests, written from the documents
+//! alone.
 
 pub mod arith;
 pub mod cases;
@@ -14,6 +15,7 @@ pub mod generate;
 pub mod instruction;
 pub mod labels;
 pub mod memory;
+pub mod modbus;
 pub mod mover;
 pub mod operand;
 pub mod refusal;

@@ -1,5 +1,6 @@
-//! What is drawn for one turn: a file, mostly damaged, a memory, a block, a pool and a place.
+//! What is drawn for one turn: a file, mostly damaged, a memory, a block, a pool and a place, a frame.
 
+use ninhalto_reference::cases::make::random_request;
 use ninhalto_reference::compose;
 use ninhalto_reference::generate::blocks::{cutting, dense, into_gap, likely, no_place, wrong};
 use ninhalto_reference::generate::faults::{aimed, aimed_twice};
@@ -18,6 +19,9 @@ pub struct Drawn {
     pub block: Block,
     pub pool: Pool,
     pub place: u32,
+    pub station: u32,
+    pub buffer: usize,
+    pub frame: Vec<u8>,
 }
 
 /// Seven of eight turns damage a file in some way; the eighth leaves it whole.
@@ -46,6 +50,15 @@ fn memory(rng: &mut Rng, made: &Made) -> Memory {
     memory
 }
 
+/// Station, reply buffer and frame. One station in sixteen is none, and so many buffers are too short.
+fn request(rng: &mut Rng) -> (u32, usize, Vec<u8>) {
+    let asked = random_request(rng);
+    let wrong = rng.pick(&[0, 248, asked.own + 256, u32::MAX]);
+    let station = if rng.once_in(16) { wrong } else { asked.own };
+    let buffer = if rng.once_in(16) { rng.below(256) } else { asked.buffer };
+    (station, buffer as usize, asked.frame)
+}
+
 pub fn draw(rng: &mut Rng, turn: usize) -> Drawn {
     let made = if rng.once_in(2) { dense(rng) } else { small(rng) };
     let file = file(rng, &made, turn);
@@ -57,5 +70,6 @@ pub fn draw(rng: &mut Rng, turn: usize) -> Drawn {
     let near = block.start.wrapping_add(rng.below(20));
     let anywhere = rng.below(8100);
     let place = rng.pick(&[near, anywhere, anywhere, u32::MAX]);
-    Drawn { file, memory, elapsed, budget, block, pool, place }
+    let (station, buffer, frame) = request(rng);
+    Drawn { file, memory, elapsed, budget, block, pool, place, station, buffer, frame }
 }

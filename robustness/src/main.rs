@@ -1,4 +1,4 @@
-//! robustness SEED COUNT: the proved library and the reference on COUNT files, most of them damaged; every number, table and byte of the six
+//! robustness SEED COUNT: the proved library and the reference on COUNT files, most of them damaged; every number, table and byte of the seven
 //! functions is compared. A difference, or a write past a lent part, stops the run.
 
 mod draw;
@@ -8,12 +8,13 @@ mod proved;
 use draw::{draw, Drawn};
 use ninhalto_reference::generate::rng::Rng;
 use ninhalto_reference::memory::Memory;
+use ninhalto_reference::modbus;
 use ninhalto_reference::refusal::Refusal;
 use ninhalto_reference::scan::Answer;
 use ninhalto_reference::{check, exchange, mover, scan, usemap};
 
-/// How often each number was told, 0 for no refusal: by check, scan, move, exchange.
-type Tally = [[u64; 15]; 4];
+/// How often each number was told, 0 for no refusal: by check, scan, move, exchange, answer.
+type Tally = [[u64; 17]; 5];
 
 fn pair(refusal: Refusal) -> [usize; 2] {
     [refusal.number as usize, refusal.record as usize]
@@ -90,6 +91,21 @@ fn exchanged(drawn: &Drawn) -> usize {
     told[0]
 }
 
+fn answered(drawn: &Drawn) -> usize {
+    let (m, d, before) = (&drawn.memory.m, &drawn.memory.d, vec![0xA5; drawn.buffer]);
+    let ours = proved::answer(drawn.station, &drawn.frame, m, d, &before);
+    let (mut m, mut d, mut reply) = (m.clone(), d.clone(), before);
+    let want = match modbus::answer(drawn.station, &drawn.frame, &mut m, &mut d, &mut reply) {
+        Err(refusal) => [refusal.number as usize, 0, 0],
+        Ok(modbus::Answer::Silent) => [0, 1, 0],
+        Ok(modbus::Answer::Reply(length)) => [0, 2, length],
+    };
+    assert_eq!(ours.0, want, "answer");
+    assert!(ours.1 == m && ours.2 == d, "the tables after a request");
+    assert!(ours.3 == reply, "the reply");
+    want[0]
+}
+
 fn turn(seed: u64, turn: u64, tally: &mut Tally) {
     let mut rng = Rng::new(seed.wrapping_mul(0x1_0000_0000).wrapping_add(turn));
     let drawn = draw(&mut rng, turn as usize);
@@ -105,6 +121,7 @@ fn turn(seed: u64, turn: u64, tally: &mut Tally) {
     tally[1][told] += 1;
     tally[2][moved(&drawn)] += 1;
     tally[3][exchanged(&drawn)] += 1;
+    tally[4][answered(&drawn)] += 1;
 }
 
 fn main() {
@@ -113,7 +130,7 @@ fn main() {
         eprintln!("robustness SEED COUNT");
         std::process::exit(2);
     };
-    let mut tally: Tally = [[0; 15]; 4];
+    let mut tally: Tally = [[0; 17]; 5];
     for i in 0..count {
         if std::panic::catch_unwind(std::panic::AssertUnwindSafe(|| turn(seed, i, &mut tally)))
             .is_err()
@@ -122,7 +139,7 @@ fn main() {
             std::process::exit(1);
         }
     }
-    for (name, row) in ["check", "scan", "move", "exchange"].iter().zip(tally) {
+    for (name, row) in ["check", "scan", "move", "exchange", "answer"].iter().zip(tally) {
         let told: Vec<String> = row
             .iter()
             .enumerate()

@@ -82,6 +82,20 @@ extern "C" {
         number: &mut usize,
         at: &mut usize,
     );
+    fn ninhalto_answer(
+        station: u32,
+        f: *const u8,
+        size: usize,
+        m: *mut u8,
+        m_size: usize,
+        d: *mut i16,
+        d_size: usize,
+        reply: *mut u8,
+        reply_size: usize,
+        number: &mut usize,
+        kind: &mut usize,
+        length: &mut usize,
+    );
 }
 
 /// What the numbers are before a call: none may be left.
@@ -212,4 +226,31 @@ pub fn exchange(d: &[i16], block: Block, place: u32) -> ([usize; 2], Vec<i16>) {
         )
     }
     ([number, at], held(&lent))
+}
+
+/// Refusal, kind and length; M, D and the reply buffer.
+pub type Answered = ([usize; 3], Vec<u8>, Vec<i16>, Vec<u8>);
+
+pub fn answer(station: u32, frame: &[u8], m: &[u8], d: &[i16], reply: &[u8]) -> Answered {
+    let [mut f, mut m, mut reply] = [frame, m, reply].map(|part| Lent::new(part, 0xC3));
+    let mut d = Lent::new(d, 0x3C3C);
+    let [mut number, mut kind, mut length] = [UNWRITTEN; 3];
+    unsafe {
+        ninhalto_answer(
+            station,
+            f.lend(),
+            f.len(),
+            m.lend(),
+            m.len(),
+            d.lend(),
+            d.len(),
+            reply.lend(),
+            reply.len(),
+            &mut number,
+            &mut kind,
+            &mut length,
+        )
+    }
+    assert!(held(&f) == frame);
+    ([number, kind, length], held(&m), held(&d), held(&reply))
 }

@@ -1,7 +1,8 @@
-//! The check, the scan, the move and the use map of the reference as functions that C can call.
+//! The check, the scan, the move, the use map and the Modbus slave of the reference as functions that C can call.
 
 use ninhalto_reference::check::check;
 use ninhalto_reference::memory::{Memory, IMAGE};
+use ninhalto_reference::modbus::{answer, Answer};
 use ninhalto_reference::mover::{move_block, Block, Pool};
 use ninhalto_reference::scan::scan;
 use ninhalto_reference::usemap::use_map;
@@ -88,4 +89,30 @@ pub unsafe extern "C" fn reference_map(
             *written = [0; 1000];
         }
     }
+}
+
+/// # Safety
+/// Each part holds as many bytes or words as the number after it says; all but the frame are free to write, and so is `told`.
+#[no_mangle]
+pub unsafe extern "C" fn reference_answer(
+    station: u32,
+    frame: *const u8,
+    size: usize,
+    m: *mut u8,
+    m_size: usize,
+    d: *mut i16,
+    d_size: usize,
+    reply: *mut u8,
+    reply_size: usize,
+    told: *mut [usize; 3],
+) {
+    let frame = std::slice::from_raw_parts(frame, size);
+    let m = std::slice::from_raw_parts_mut(m, m_size);
+    let d = std::slice::from_raw_parts_mut(d, d_size);
+    let reply = std::slice::from_raw_parts_mut(reply, reply_size);
+    *told = match answer(station, frame, m, d, reply) {
+        Err(refusal) => [refusal.number as usize, 0, 0],
+        Ok(Answer::Silent) => [0, 1, 0],
+        Ok(Answer::Reply(length)) => [0, 2, length],
+    };
 }

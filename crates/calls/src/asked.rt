@@ -17,9 +17,13 @@ pub const TRIAL: usize = 5;
 
 pub const DEMO: usize = 6;
 
-pub const NONE: usize = 7;
+pub const ANSWER: usize = 7;
 
-pub const PICTURE: usize = 8;
+pub const SLAVE: usize = 8;
+
+pub const NONE: usize = 9;
+
+pub const PICTURE: usize = 10;
 
 // Whether a call of so many words is one of the command.
 fn fits(command: usize, count: usize) -> bool {
@@ -31,6 +35,8 @@ fn fits(command: usize, count: usize) -> bool {
         4 => (count == 4) | (count == 5),
         5 => count == 8,
         6 => count == 3,
+        7 => count == 4,
+        8 => count == 9,
         _ => false,
     }
 }
@@ -39,7 +45,7 @@ fn fits(command: usize, count: usize) -> bool {
 pub fn command(call: &[u8]) -> usize {
     let command = text::which(
         text::word(call, 0),
-        b"check\0map\0move\0exchange\0scan\0trial\0demo\0",
+        b"check\0map\0move\0exchange\0scan\0trial\0demo\0answer\0slave\0",
         NONE,
     );
     let count = text::count(call);

@@ -37,6 +37,15 @@ pub fn load(path: &[u8], err: i32, buf: &mut [u8; 65536]) -> Bytes
     Bytes { n, whole }
 }
 
+// A device, for reading and writing. Where it cannot be opened, that is told, and the answer is negative.
+pub fn open(path: &[u8], err: i32) -> i32 {
+    let fd = os::open_update(path);
+    if fd < 0 {
+        errors::failed(err, path);
+    }
+    fd
+}
+
 // The new file is written, and its bytes have reached their device; it is closed and renamed. What fails is told.
 fn put_over(fd: i32, name: &[u8], path: &[u8], bytes: &[u8], err: i32) -> bool {
     let filled = if io::write_all(fd, bytes) {

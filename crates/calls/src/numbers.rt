@@ -20,6 +20,10 @@ pub const BUDGET: usize = texts::NO_NUMBER + 6;
 
 pub const SCANS: usize = texts::NO_NUMBER + 7;
 
+pub const STATION: usize = texts::NO_STATION;
+
+pub const SECONDS: usize = texts::NO_SECONDS;
+
 // An unsigned 32-bit number; 0 where there is none.
 pub struct Number {
     pub n: u32,

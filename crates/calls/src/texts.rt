@@ -15,12 +15,12 @@ pub const MOVED: usize = 4;
 
 pub const EXCHANGED: usize = 6;
 
-// What a refusal means: of refusal k the k-th text after REFUSAL_AT. 9 and 14 mean another thing in an exchange.
+// What a refusal means: of refusal k, 1 to 14, the k-th text after REFUSAL_AT. 9 means another thing where there is no scan, and 14 in an exchange.
 pub const REFUSAL: usize = 8;
 
 pub const REFUSAL_AT: usize = 9;
 
-pub const EXCHANGE_9: usize = 24;
+pub const MEMORY_9: usize = 24;
 
 pub const EXCHANGE_14: usize = 25;
 
@@ -93,6 +93,20 @@ pub const USAGE: usize = 129;
 
 // What came of a call, and the same where a file was replaced.
 pub const STATUS: usize = 130;
+
+// Of requests: what refusal 16 means, what is no number, and the answers. The bytes of a reply stand after REPLY.
+pub const REFUSAL_16: usize = 132;
+
+pub const NO_STATION: usize = 133;
+
+pub const SILENT: usize = 134;
+
+pub const REPLY: usize = 135;
+
+// Of a slave: what happened, and what is no number.
+pub const SERVED: usize = 136;
+
+pub const NO_SECONDS: usize = 137;
 
 // Bytes to a descriptor. Answers the descriptor, or -1 where not all was written; nothing is written to -1. So what the last of a row of calls
 // answers tells of them all.
@@ -244,8 +258,14 @@ BUDGET: no number from 0 to 4294967295\n\0\
 SCANS: no number from 0 to 4294967295\n\0\
 ninhalto: the answer could not be written\n\0\
 ninhalto: the call is too long\n\0\
-usage: ninhalto check FILE, map [--picture] FILE, scan FILE MEMORY ELAPSED [BUDGET], move FILE START LENGTH POOLSTART POOLEND, exchange MEMORY START LENGTH PLACE, trial OLD START LENGTH POOLSTART POOLEND MEMORY SCANS, demo, or help\n\0\
-%\n\0% replaced\n\0",
+usage: ninhalto check FILE, map [--picture] FILE, scan FILE MEMORY ELAPSED [BUDGET], move FILE START LENGTH POOLSTART POOLEND, exchange MEMORY START LENGTH PLACE, answer MEMORY STATION REQUEST, slave [--quiet] FILE MEMORY DEVICE STATION [SECONDS], trial OLD START LENGTH POOLSTART POOLEND MEMORY SCANS, demo, or help\n\0\
+%\n\0% replaced\n\0\
+: the station is not from 1 to 247\n\0\
+STATION: no number from 0 to 4294967295\n\0\
+silent\n\0\
+reply\0\
+scans % requests % replies % silent %\n\0\
+SECONDS: no number from 0 to 4294967295\n\0",
         k,
         a,
         b,

@@ -17,12 +17,14 @@ use Rattle.ec20.specs.File.{recordsOf}
 use Rattle.ec20.specs.Move.{block, pool, moveOf}
 use Rattle.ec20.specs.Scan.{scanOf}
 use Rattle.ec20.specs.UseMap.{mapIf, mapFor, useMapOf}
+use Rattle.modbus.specs.Answer.{answerOf}
 use Rattle.refusals.proofs.Refused.{refused-1, refused-2, refused-3, refused-4, refused-5, refused-6, refused-7, refused-8, not-refused, one-to-eight}
 use Rattle.demands.specs.Demand1.{OneAnswer, CheckNumbers, MapNumbers, Demand1}
 use Rattle.demands.specs.Lines.{Line9, Line10, Line11, Line12, First13, Line14, Lowest, Line14D}
 use Rattle.demands.proofs.ScanAnswers.{scan-ends, scan-numbers}
 use Rattle.demands.proofs.MoveAnswers.{move-numbers}
 use Rattle.demands.proofs.ExchangeAnswers.{exchange-numbers}
+use Rattle.demands.proofs.RequestAnswers.{answer-numbers}
 
 one : {A : Type 0} (x : A) → OneAnswer x
 one x = record { some = (x, refl); only = λ r s p q. one-answer p q }
@@ -58,12 +60,14 @@ demand-1 = record {
   use-map = λ f. one (useMapOf f);
   move = λ f b l. one (moveOf f b l);
   exchange = λ d b q. one (exchangeOf d b q);
+  answer = λ own f m d b. one (answerOf own f m d b);
   ends = scan-ends;
   check-numbers = check-numbers;
   scan-numbers = scan-numbers;
   map-numbers = map-numbers;
   move-numbers = move-numbers;
   exchange-numbers = exchange-numbers;
+  answer-numbers = answer-numbers;
 }
 
 -- ---- and it is not for nothing: one call for each number from 9 on, by its line

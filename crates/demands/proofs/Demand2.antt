@@ -27,6 +27,7 @@ use Rattle.moving.proofs.Work.{work-kept}
 use Rattle.demands.specs.Demand2.{Reports, Demand2}
 use Rattle.demands.specs.Lines.{Not9}
 use Rattle.demands.specs.Steps.{afterSteps, reportOf}
+use Rattle.demands.proofs.Events.{events-work}
 use Rattle.demands.proofs.Lines.{fits-all}
 use Rattle.demands.proofs.Total.{each-sound}
 use Rattle.demands.proofs.ScanAnswers.{says, scan-runs, scan-counted, fitting-true}
@@ -77,6 +78,7 @@ demand-2 f n w ok = record {
   w-is-enough = λ e b c h l. scan-of-ends f n w ok e b c l (fitting-true f e b c h);
   no-watchdog = never f n w ok;
   work = λ e b c i h. work-kept f n w ok i (h .from) e b c;
+  work-series = λ c es i h. events-work f n w ok i h c es;
   unmarked = λ e b c i l h. map-kept f n w ok i l h e b c;
 }
 

@@ -8,6 +8,7 @@ pub mod Places
 pub mod ScanAnswers
 pub mod MoveAnswers
 pub mod ExchangeAnswers
+pub mod RequestAnswers
 -- Steps, counted out
 pub mod Counted
 -- Flow and stacks: a byte as a stack, a step by the rung rule, a whole scan
@@ -15,6 +16,8 @@ pub mod Stacks
 pub mod Power
 pub mod Going
 pub mod Total
+-- Scans and requests in any order
+pub mod Events
 -- The demands
 pub mod Demand1
 pub mod Demand2

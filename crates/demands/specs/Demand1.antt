@@ -1,5 +1,5 @@
 -- DEMAND 1. "Every file, memory table, block and pool gets an answer, and every scan ends. Bad input is refused by the numbers 1 to 14 of
--- document 01, in its order, each exactly when its line holds; a refusal changes no lent byte or word. Nobody upstream checks for us, so a
+-- document 01 (and those that document 02 adds), in their order, each exactly when its line holds; a refusal changes no lent byte or word. Nobody upstream checks for us, so a
 -- public entry has no `requires`."
 use Prim.Native.Nat.{ℕ, _≤_}
 use mathlib.Core.List.{List}
@@ -22,11 +22,13 @@ use Rattle.ec20.specs.Memory.{Memory}
 use Rattle.ec20.specs.Move.{Block, Pool, moveOf}
 use Rattle.ec20.specs.Scan.{scanOf, plainScan}
 use Rattle.ec20.specs.UseMap.{useMapOf}
+use Rattle.modbus.specs.declared.Answered.the-variants.{Refused as NotAnswered}
+use Rattle.modbus.specs.Answer.{answerOf}
 use Rattle.refusals.specs.Frame.{Line1}
 use Rattle.refusals.specs.Records.{Line2, Line3, Line4}
 use Rattle.refusals.specs.Steps.{Line8, wOf}
 use Rattle.refusals.specs.Table.{recordAt, Not1, Not2-4, Not5, Not6, Not7, Not8, First2-4, First5, First6, First7}
-use Rattle.demands.specs.Lines.{Accepts, Line9, Line10, Not10, Line11, Not11, Line12, Not12, First13, Line14, Lowest, Asked, Line9D, Line14D}
+use Rattle.demands.specs.Lines.{Accepts, Line9, Line10, Not10, Line11, Not11, Line12, Not12, First13, Line14, Lowest, Asked, Line9D, Line14D, Line9R, Line16}
 
 -- "gets an answer": some result meets the contract, which is the equation with x, and no two differ
 pub record OneAnswer {A : Type 0} (x : A) : Type 0 where
@@ -96,6 +98,14 @@ pub record ExchangeNumbers (d : List ℤ) (b : Block) (q : ℕ) : Type 0 where
   pub no-other : (m k : ℕ) → exchangeOf d b q .answer ≡ NotExchanged m k → (m ≡ 9) ⊎ (m ≡ 10) ⊎ (m ≡ 12) ⊎ (m ≡ 14)
   pub unchanged : (m k : ℕ) → exchangeOf d b q .answer ≡ NotExchanged m k → exchangeOf d b q .words ≡ d
 
+-- The answer to the frame f at the station own, over M, D and the reply buffer b: "is 16, after 9".
+pub record AnswerNumbers (own : ℕ) (f m : List ℕ) (d : List ℤ) (b : List ℕ) : Type 0 where
+  pub nine : (k : ℕ) → (answerOf own f m d b .answer ≡ NotAnswered 9 k) ↔ ((k ≡ 0) × Line9R m d)
+  pub sixteen : (k : ℕ) → (answerOf own f m d b .answer ≡ NotAnswered 16 k) ↔ ((k ≡ 0) × (Line9R m d → ⊥) × Line16 own b)
+  pub no-other : (n k : ℕ) → answerOf own f m d b .answer ≡ NotAnswered n k → (n ≡ 9) ⊎ (n ≡ 16)
+  pub unchanged : (n k : ℕ) → answerOf own f m d b .answer ≡ NotAnswered n k
+      → (answerOf own f m d b .m ≡ m) × (answerOf own f m d b .d ≡ d) × (answerOf own f m d b .reply ≡ b)
+
 -- THE DEMAND, of every input: nothing is asked of it.
 pub record Demand1 : Type 0 where
   -- "Every file, memory table, block and pool gets an answer"
@@ -105,6 +115,7 @@ pub record Demand1 : Type 0 where
   pub use-map : (f : List ℕ) → OneAnswer (useMapOf f)
   pub move : (f : List ℕ) (b : Block) (l : Pool) → OneAnswer (moveOf f b l)
   pub exchange : (d : List ℤ) (b : Block) (q : ℕ) → OneAnswer (exchangeOf d b q)
+  pub answer : (own : ℕ) (f m : List ℕ) (d : List ℤ) (b : List ℕ) → OneAnswer (answerOf own f m d b)
   -- "and every scan ends"
   pub ends : (f : List ℕ) (e b : ℕ) (c : Memory) → Ends b (scanOf f e b c .answer)
   -- "Bad input is refused by the numbers 1 to 14 of document 01, in its order, each exactly when its line holds; a refusal changes no lent
@@ -114,3 +125,4 @@ pub record Demand1 : Type 0 where
   pub map-numbers : (f : List ℕ) → MapNumbers f
   pub move-numbers : (f : List ℕ) (b : Block) (l : Pool) → MoveNumbers f b l
   pub exchange-numbers : (d : List ℤ) (b : Block) (q : ℕ) → ExchangeNumbers d b q
+  pub answer-numbers : (own : ℕ) (f m : List ℕ) (d : List ℤ) (b : List ℕ) → AnswerNumbers own f m d b

@@ -1,5 +1,5 @@
 -- DEMAND 2. "A scan of an accepted program leaves the memory, flags, errors and step count that document 01 states. It makes at most W steps.
--- No scan changes WORK, D7900 to D7999."
+-- No scan changes WORK, D7900 to D7999." And with requests (document 02): "WORK now reads: changed by no scan and no request."
 use Prim.Native.Nat.{ℕ, _≤_, _<_}
 use mathlib.Core.List.{List}
 use mathlib.Core.Logic.{_⊎_}
@@ -14,6 +14,7 @@ use Rattle.ec20.specs.Registers.{wordAt}
 use Rattle.ec20.specs.Scan.{scanOf}
 use Rattle.ec20.specs.UseMap.{useMapOf}
 use Rattle.bound.specs.Scans.{EndsIn}
+use Rattle.demands.specs.Events.{Event, afterEvents}
 use Rattle.demands.specs.Lines.{Work, Not9}
 use Rattle.demands.specs.Steps.{afterSteps, Counted}
 use Rattle.demands.specs.Total.{Sound}
@@ -38,6 +39,8 @@ pub record Demand2 (f : List ℕ) (n w : ℕ) : Type 0 where
   pub no-watchdog : (e b : ℕ) (c : Memory) → w ≤ b → (r : Report) → scanOf f e b c .answer ≡ Watchdog r → ⊥
   -- "No scan changes WORK, D7900 to D7999."
   pub work : (e b : ℕ) (c : Memory) (i : ℕ) → Work i → wordAt (scanOf f e b c .mem .d) i ≡ wordAt (c .d) i
+  -- "changed by no scan and no request": over any series of scans and requests
+  pub work-series : (c : Memory) (es : List Event) (i : ℕ) → Work i → wordAt (afterEvents f c es .d) i ≡ wordAt (c .d) i
   -- "A word not marked written is changed by no scan."
   pub unmarked : (e b : ℕ) (c : Memory) (i : ℕ) → i < 8000 → bitAt (useMapOf f .written) i ≡ 0
       → wordAt (scanOf f e b c .mem .d) i ≡ wordAt (c .d) i

@@ -1,6 +1,7 @@
 -- DEMAND 3. "The mover picks the lowest right place, or says 'no place' exactly when there is none. Exchange the two ranges in the D table and
 -- run the moved program: for any memory and any series of inputs, elapsed times and budgets, every scan gives the old answer and the old
--- memory with the ranges exchanged."
+-- memory with the ranges exchanged." It "still speaks of scans with no request between them" (document 02): a request names its registers by their
+-- numbers, and after a move these hold other words.
 use Prim.Native.Nat.{ℕ, _+_, _*_, _≤_, _<_}
 use mathlib.Core.List.{List, map}
 use mathlib.Core.Logic.{_↔_}

@@ -5,6 +5,8 @@ pub mod Lines
 pub mod Steps
 -- Flow and stacks where a record is due
 pub mod Total
+-- Scans and requests in any order
+pub mod Events
 -- The demands
 pub mod Demand1
 pub mod Demand2

@@ -136,3 +136,16 @@ pub data Line14D (b : Block) (q : ℕ) : Type 0 where
   outside : 8000 < q + b .length → Line14D b q
   in-block : (i : ℕ) → In q (b .length) i → InBlock b i → Line14D b q
   in-work : (i : ℕ) → In q (b .length) i → Work i → Line14D b q
+
+-- ---- the answer to a Modbus frame
+
+-- 9: "memory table of wrong size", of the two that are lent
+pub data Line9R (m : List ℕ) (d : List ℤ) : Type 0 where
+  size-m : (length m ≡ 250 → ⊥) → Line9R m d
+  size-d : (length d ≡ 8000 → ⊥) → Line9R m d
+
+-- 16: "An own station outside 1 to 247 or a reply buffer under 256 bytes is 16, after 9."
+pub data Line16 (own : ℕ) (b : List ℕ) : Type 0 where
+  below : own < 1 → Line16 own b
+  above : 247 < own → Line16 own b
+  buffer : length b < 256 → Line16 own b

@@ -34,7 +34,7 @@ fn tell(
             }
         }
         Exchanged::Refused { number, record } => {
-            report::refused_exchange(path, number, record, out, err)
+            report::refused_memory(path, number, record, out, err)
         }
     }
 }

@@ -10,6 +10,8 @@ use Rattle.ec20.specs.declared.Exchanged.{Exchanged}
 use Rattle.ec20.specs.declared.Mapped.{Mapped}
 use Rattle.ec20.specs.declared.Moved.{Moved}
 use Rattle.ec20.specs.declared.Verdict.{Verdict}
+use Rattle.modbus.specs.Answer.{Answer, toldByAnswer}
+use Rattle.modbus.specs.declared.Answered.{Answered}
 
 -- two names of one verdict tell the same four numbers
 pub tells : {r u v : Verdict} → r ≡ v → r ≡ u
@@ -35,3 +37,11 @@ pub exchanged : {r u : Exchanged} {d : List ℤ} {s : Exchange} → record { ans
 exchanged {u = u} {s = s} e f =
     let p : toldByExchange u ≡ toldByExchange (s .answer) = ap toldByExchange (sym f ∙ ap (λ (x : Exchange). x .answer) e) in
     (ap (λ (x : Exchange). x .words) e, (ap (λ t. t .number) p, ap (λ t. t .at) p))
+
+-- the tables and the reply buffer after a request, and its three numbers
+pub answered : {r u : Answered} {m : List ℕ} {d : List ℤ} {b : List ℕ} {s : Answer} → record { answer = r; m = m; d = d; reply = b } ≡ s → r ≡ u
+    → (m ≡ s .m) × ((d ≡ s .d) × ((b ≡ s .reply) × ((toldByAnswer u .number ≡ toldByAnswer (s .answer) .number)
+    × ((toldByAnswer u .kind ≡ toldByAnswer (s .answer) .kind) × (toldByAnswer u .length ≡ toldByAnswer (s .answer) .length)))))
+answered {u = u} {s = s} e f =
+    let p : toldByAnswer u ≡ toldByAnswer (s .answer) = ap toldByAnswer (sym f ∙ ap (λ (x : Answer). x .answer) e) in
+    (ap (λ (x : Answer). x .m) e, (ap (λ (x : Answer). x .d) e, (ap (λ (x : Answer). x .reply) e, (ap (λ t. t .number) p, (ap (λ t. t .kind) p, ap (λ t. t .length) p)))))

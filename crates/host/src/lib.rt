@@ -1,5 +1,6 @@
 // Ninhalto for a host program in C or Rust: the static library that `rt staticlib host` writes; include/ninhalto.h says it to C. A host lends
 // the bytes of a file, the tables and the numbers to write, none of which overlap. Each function asks nothing more.
+mod answers;
 mod check;
 mod exchanges;
 mod map;

@@ -1,5 +1,6 @@
 // Answers and refusals: a line to `out`, and what a refusal means to `err`.
 use crate::names;
+use crate::replies;
 use crate::spans;
 use calls::results;
 use calls::results::Outcome;
@@ -27,6 +28,16 @@ pub fn exchanged(start: usize, length: usize, place: usize, out: i32, err: i32) 
     results::answered(0, true, to, err)
 }
 
+// A request was answered by the first n bytes of the reply; by none, where n is 0. replaced: whether it changed the memory, which was written.
+pub fn answered(reply: &[u8], n: usize, replaced: bool, out: i32, err: i32) -> Outcome {
+    if n == 0 {
+        let to = texts::say(out, texts::SILENT, 0, 0, 0, 0);
+        return results::answered(0, replaced, to, err);
+    }
+    let to = replies::show(out, reply, n);
+    results::answered(0, replaced, to, err)
+}
+
 // The number, with the record, if one is told, and its instruction's name: 2 to 7 and 13 are told at a record.
 fn place(to: i32, file: &[u8], number: usize, record: usize) -> i32 {
     if (2 <= number) & (number <= 7) | (number == 13) {
@@ -34,6 +45,14 @@ fn place(to: i32, file: &[u8], number: usize, record: usize) -> i32 {
         return names::say_name(to, file, record);
     }
     texts::say(to, texts::REFUSAL, number, 0, 0, 0)
+}
+
+// The text that tells what a refusal means.
+fn meaning(number: usize) -> usize {
+    if number == 16 {
+        return texts::REFUSAL_16;
+    }
+    std::num::wrapping_add_usize(texts::REFUSAL_AT, number)
 }
 
 // path: the name of the file that is told; file: the program file, in which the record stands.
@@ -48,20 +67,20 @@ pub fn refused(
     let to = texts::say(out, texts::REFUSED, number, record, 0, 0);
     let outcome = results::answered(1, false, to, err);
     let to = place(texts::put(err, path), file, number, record);
-    let means = std::num::wrapping_add_usize(texts::REFUSAL_AT, number);
-    texts::say(to, means, 0, 0, 0, 0);
+    texts::say(to, meaning(number), 0, 0, 0, 0);
     outcome
 }
 
-// The place of an exchange is named in the call, so that its 14 means another thing, and it takes no elapsed units.
-pub fn refused_exchange(path: &[u8], number: usize, record: usize, out: i32, err: i32) -> Outcome {
+// Of an exchange, or of a request. The place of an exchange is named in the call, so that its 14 means another thing, and neither takes elapsed
+// units.
+pub fn refused_memory(path: &[u8], number: usize, record: usize, out: i32, err: i32) -> Outcome {
     let to = texts::say(out, texts::REFUSED, number, record, 0, 0);
     let outcome = results::answered(1, false, to, err);
     let to = texts::put(err, path);
     let to = texts::say(to, texts::REFUSAL, number, 0, 0, 0);
-    let mut means = std::num::wrapping_add_usize(texts::REFUSAL_AT, number);
+    let mut means = meaning(number);
     if number == 9 {
-        means = texts::EXCHANGE_9;
+        means = texts::MEMORY_9;
     }
     if number == 14 {
         means = texts::EXCHANGE_14;

@@ -48,6 +48,9 @@ fn chosen(call: &[u8], out: i32, err: i32) -> Outcome {
     if commands::scans(command) {
         return commands::run(command, call, out, err);
     }
+    if command == asked::SLAVE {
+        return serving::run(call, out, err);
+    }
     file_commands::run(command, call, out, err)
 }
 

@@ -1,5 +1,5 @@
-//! A host in Rust: it checks a program, scans it, prints which words of a block it uses, moves the block, exchanges its words, and scans again.
-//! The two scans do the same. The program stands in memory; a real host reads it from a file.
+//! A host in Rust: it checks a program, scans it, answers a Modbus request, prints which words of a block it uses, moves the block, exchanges its
+//! words, and scans again. The two scans do the same. The program stands in memory; a real host reads it from a file.
 
 mod ninhalto;
 
@@ -92,6 +92,22 @@ fn exchange(memory: &mut Memory, place: u32) -> Result<(), Refusal> {
     Ok(())
 }
 
+/// A master reads the first five words of the block: station 1, function 3, address, quantity, CRC.
+fn answer(memory: &mut Memory) -> Result<(), Refusal> {
+    let request = [0x01, 0x03, 0x00, 0x64, 0x00, 0x05, 0xc4, 0x16];
+    let mut reply = [0; 256];
+    match ninhalto::answer(1, &request, &mut memory.m, &mut memory.d, &mut reply)? {
+        Some(bytes) => {
+            println!(
+                "reply {}",
+                bytes.iter().map(|b| format!("{b:02x}")).collect::<Vec<_>>().join(" ")
+            )
+        }
+        None => println!("silent"),
+    }
+    Ok(())
+}
+
 fn print_words(memory: &Memory, from: u32) {
     let words = &memory.d[from as usize..(from + LENGTH) as usize];
     println!("{}", words.iter().map(i16::to_string).collect::<Vec<_>>().join(" "));
@@ -115,6 +131,7 @@ fn main() -> Result<(), Refusal> {
     let (mut moved, mut after) = (file.clone(), before.clone());
     let told = scan(&file, &mut before);
     print_words(&before, BLOCK);
+    answer(&mut before)?;
     print_runs(&ninhalto::use_map(&file)?);
     let place = ninhalto::move_block(&mut moved, BLOCK, LENGTH, POOL, POOL_END)?;
     println!("move: refusal 0 at 0, place {place}");

@@ -85,9 +85,23 @@ extern "C" {
         number: &mut usize,
         at: &mut usize,
     );
+    fn ninhalto_answer(
+        station: u32,
+        f: *const u8,
+        size: usize,
+        m: *mut u8,
+        m_size: usize,
+        d: *mut i16,
+        d_size: usize,
+        reply: *mut u8,
+        reply_size: usize,
+        number: &mut usize,
+        kind: &mut usize,
+        length: &mut usize,
+    );
 }
 
-fn answer<T>(number: usize, record: usize, value: T) -> Result<T, Refusal> {
+fn unless_refused<T>(number: usize, record: usize, value: T) -> Result<T, Refusal> {
     if number == 0 {
         Ok(value)
     } else {
@@ -101,7 +115,7 @@ pub fn check(file: &[u8]) -> Result<(usize, usize), Refusal> {
     unsafe {
         ninhalto_check(file.as_ptr(), file.len(), &mut number, &mut at, &mut records, &mut steps)
     }
-    answer(number, at, (records, steps))
+    unless_refused(number, at, (records, steps))
 }
 
 pub fn scan(file: &[u8], c: &mut Memory, elapsed: u32, budget: u32) -> Told {
@@ -145,7 +159,7 @@ pub fn use_map(file: &[u8]) -> Result<UseMap, Refusal> {
             &mut map.written,
         )
     }
-    answer(number, at, map)
+    unless_refused(number, at, map)
 }
 
 /// Where the place begins; the file is changed where it is lent.
@@ -170,7 +184,7 @@ pub fn move_block(
             &mut place,
         )
     }
-    answer(number, at, place as u32)
+    unless_refused(number, at, place as u32)
 }
 
 pub fn exchange(d: &mut [i16], start: u32, length: u32, place: u32) -> Result<(), Refusal> {
@@ -178,5 +192,33 @@ pub fn exchange(d: &mut [i16], start: u32, length: u32, place: u32) -> Result<()
     unsafe {
         ninhalto_exchange(d.as_mut_ptr(), d.len(), start, length, place, &mut number, &mut at)
     }
-    answer(number, at, ())
+    unless_refused(number, at, ())
+}
+
+/// The bytes of the reply to a Modbus request, at the start of the buffer; none where nothing is to be sent.
+pub fn answer<'a>(
+    station: u32,
+    request: &[u8],
+    m: &mut [u8],
+    d: &mut [i16],
+    reply: &'a mut [u8],
+) -> Result<Option<&'a [u8]>, Refusal> {
+    let (mut number, mut kind, mut length) = (0, 0, 0);
+    unsafe {
+        ninhalto_answer(
+            station,
+            request.as_ptr(),
+            request.len(),
+            m.as_mut_ptr(),
+            m.len(),
+            d.as_mut_ptr(),
+            d.len(),
+            reply.as_mut_ptr(),
+            reply.len(),
+            &mut number,
+            &mut kind,
+            &mut length,
+        )
+    }
+    unless_refused(number, 0, if kind == 2 { Some(&reply[..length]) } else { None })
 }

@@ -12,6 +12,7 @@ pub mod maps;
 pub mod memories;
 pub mod moves;
 pub mod reach;
+pub mod requests;
 pub mod scans;
 pub mod values;
 
@@ -20,7 +21,8 @@ use bytes::Writer;
 use filefield::FileField;
 
 /// The kinds of case files, in the order of their numbers from 1.
-pub const KINDS: [&str; 6] = ["leaves", "checks", "scans", "moves", "exchanges", "maps"];
+pub const KINDS: [&str; 7] =
+    ["leaves", "checks", "scans", "moves", "exchanges", "maps", "requests"];
 
 pub const LEAVES: u32 = 1;
 pub const CHECKS: u32 = 2;
@@ -28,6 +30,7 @@ pub const SCANS: u32 = 3;
 pub const MOVES: u32 = 4;
 pub const EXCHANGES: u32 = 5;
 pub const MAPS: u32 = 6;
+pub const REQUESTS: u32 = 7;
 
 /// The whole leaf file: word and pair leaves, then the section of groups.
 fn leaf_file(rng: &mut Rng, count: u32) -> Vec<u8> {
@@ -83,6 +86,14 @@ fn map_file(rng: &mut Rng, count: u32) -> Vec<u8> {
     out.bytes
 }
 
+fn request_file(rng: &mut Rng, count: u32) -> Vec<u8> {
+    let mut out = Writer::file(REQUESTS, count);
+    for case in make::request_cases(rng, count as usize) {
+        case.write(&mut out);
+    }
+    out.bytes
+}
+
 /// A whole case file by the name of its kind; none if there is no such kind.
 pub fn case_file(kind: &str, seed: u64, count: u32) -> Option<Vec<u8>> {
     let rng = &mut Rng::new(seed);
@@ -93,6 +104,7 @@ pub fn case_file(kind: &str, seed: u64, count: u32) -> Option<Vec<u8>> {
         "moves" => move_file(rng, count),
         "exchanges" => exchange_file(rng, count),
         "maps" => map_file(rng, count),
+        "requests" => request_file(rng, count),
         _ => return None,
     })
 }

@@ -9,6 +9,7 @@ use super::groups::Group;
 use super::leaves::Leaf;
 use super::maps::MapCase;
 use super::moves::MoveCase;
+use super::requests::{RequestCase, Tables, SILENT};
 use super::scans::{ScanCase, ENDED, WATCHDOG};
 use crate::check::check;
 use crate::memory::IMAGE;
@@ -19,7 +20,7 @@ pub struct Reach {
     pub cases: u64,
     pub agree: u64,
     /// By refusal number; 0 counts the accepted.
-    pub refusals: [u64; 15],
+    pub refusals: [u64; 17],
     /// Records of accepted files, by instruction number.
     pub listed: [u64; 256],
     /// Records executed by the scans, and those among them with the flow on before them.
@@ -29,6 +30,10 @@ pub struct Reach {
     pub ended: u64,
     pub watchdog: u64,
     pub groups: u64,
+    pub silent: u64,
+    /// Replies to requests: by exception code, and those without one by function.
+    pub exceptions: [u64; 256],
+    pub replies: [u64; 256],
 }
 
 impl Default for Reach {
@@ -36,7 +41,7 @@ impl Default for Reach {
         Reach {
             cases: 0,
             agree: 0,
-            refusals: [0; 15],
+            refusals: [0; 17],
             listed: [0; 256],
             executed: [0; 256],
             with_flow: [0; 256],
@@ -44,6 +49,9 @@ impl Default for Reach {
             ended: 0,
             watchdog: 0,
             groups: 0,
+            silent: 0,
+            exceptions: [0; 256],
+            replies: [0; 256],
         }
     }
 }
@@ -156,6 +164,22 @@ impl Reach {
         Some(())
     }
 
+    fn requests(&mut self, from: &mut Reader, count: u32) -> Option<()> {
+        let mut kept = Tables::default();
+        for _ in 0..count {
+            let case = RequestCase::read(from)?;
+            let again = RequestCase::solve(case.asked.clone(), &mut kept);
+            self.count(case.refusal, case.with_reply(again.reply.clone()) == again);
+            self.silent += u64::from(again.kind == SILENT);
+            match again.told() {
+                Some((function, 0)) => self.replies[usize::from(function)] += 1,
+                Some((_, code)) => self.exceptions[usize::from(code)] += 1,
+                None => {}
+            }
+        }
+        Some(())
+    }
+
     /// Adds a whole case file; none if it is not one, or not exactly one.
     pub fn add(&mut self, bytes: &[u8]) -> Option<()> {
         let mut from = Reader::new(bytes);
@@ -167,6 +191,7 @@ impl Reach {
             super::MOVES => self.moves(&mut from, count)?,
             super::EXCHANGES => self.exchanges(&mut from, count)?,
             super::MAPS => self.maps(&mut from, count)?,
+            super::REQUESTS => self.requests(&mut from, count)?,
             _ => return None,
         }
         from.at_end().then_some(())

@@ -2,6 +2,7 @@
 
 use super::{load, number, numbers, store, Said};
 use crate::memory::Memory;
+use crate::modbus::{self, BUFFER};
 use crate::mover::{Block, Pool};
 use crate::refusal::Refusal;
 use crate::scan::{Answer, DEFAULT_BUDGET};
@@ -86,6 +87,28 @@ pub fn exchange(path: &str, words: &[&str]) -> Said {
             store(path, &memory.image())?;
             said(ranges("exchanged", block, "with", place))
         }
+        Err(refusal) => said(refusal.to_string()),
+    }
+}
+
+/// A frame's bytes as pairs of digits.
+fn spelt(bytes: &[u8]) -> String {
+    bytes.iter().map(|byte| format!(" {byte:02x}")).collect()
+}
+
+pub fn answer(path: &str, station: u32, request: &str) -> Said {
+    let image = load(path)?;
+    let frame = load(request)?;
+    let mut memory = memory_of(&image);
+    let mut reply = [0u8; BUFFER];
+    let done = modbus::answer(station, &frame, &mut memory.m, &mut memory.d, &mut reply);
+    // Only a memory that was changed is written; a refused one has no image of its own.
+    if done.is_ok() && memory.image() != image {
+        store(path, &memory.image())?;
+    }
+    match done {
+        Ok(modbus::Answer::Reply(length)) => said(format!("reply{}", spelt(&reply[..length]))),
+        Ok(modbus::Answer::Silent) => said("silent".to_string()),
         Err(refusal) => said(refusal.to_string()),
     }
 }

@@ -13,7 +13,8 @@ const USAGE: &str = "usage: ninhalto-reference
   map FILE
   move FILE START LENGTH POOLSTART POOLEND
   exchange MEMORY START LENGTH PLACE
-  leaves|checks|scans|moves|exchanges|maps PATH SEED COUNT
+  answer MEMORY STATION REQUEST
+  leaves|checks|scans|moves|exchanges|maps|requests PATH SEED COUNT
   coverage CASEFILE..
   storm SEED COUNT
   selftest";
@@ -46,6 +47,7 @@ fn dispatch(words: &[&str]) -> Said {
         ["map", file] => answers::map(file),
         ["move", file, numbers @ ..] => answers::move_block(file, numbers),
         ["exchange", memory, numbers @ ..] => answers::exchange(memory, numbers),
+        ["answer", memory, station, request] => answers::answer(memory, number(station)?, request),
         ["selftest"] => Ok(self_test()),
         ["coverage", paths @ ..] if !paths.is_empty() => coverage::coverage(paths),
         ["storm", seed, count] => storm::storm(number(seed)?, number(count)?),

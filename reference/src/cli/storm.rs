@@ -7,7 +7,8 @@ fn describe(t: &Tally) -> String {
     let files = format!("files {} refused {}", t.files, t.refused);
     let scans = format!("scans {} watchdogs {}", t.scans, t.watchdogs);
     let moves = format!("moves {} accepted {} twin scans {}", t.moves, t.moved, t.twin_scans);
-    format!("{files}, {scans}, {moves}\nall held\n")
+    let requests = format!("requests {} replies {}", t.requests, t.replies);
+    format!("{files}, {scans}, {moves}, {requests}\nall held\n")
 }
 
 pub fn storm(seed: u32, count: u32) -> Said {

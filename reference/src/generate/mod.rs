@@ -1,4 +1,4 @@
-//! Generators of inputs: programs, faults, files, memories, blocks and pools.
+//! Generators of inputs: programs, faults, files, memories, blocks and pools, requests.
 
 pub mod blocks;
 pub mod edge_programs;
@@ -9,6 +9,8 @@ pub mod memories;
 pub mod operands;
 pub mod program;
 pub mod record_faults;
+pub mod request_edges;
+pub mod requests;
 pub mod rng;
 mod rung_faults;
 mod rungs;

@@ -3,6 +3,7 @@
 
 mod moves;
 mod refused;
+mod requests;
 mod scans;
 
 use crate::cases::memories::MemorySpec;
@@ -26,6 +27,8 @@ pub struct Tally {
     pub moves: u64,
     pub moved: u64,
     pub twin_scans: u64,
+    pub requests: u64,
+    pub replies: u64,
 }
 
 /// What did not hold, in words.
@@ -66,6 +69,10 @@ fn accepted_program(rng: &mut Rng, turn: usize) -> crate::generate::program::Mad
 }
 
 fn round(rng: &mut Rng, turn: usize, tally: &mut Tally) -> Held {
+    for _ in 0..4 {
+        let memory = random_memory(rng, &[]);
+        requests::round(rng, &memory, tally)?;
+    }
     if turn.is_multiple_of(2) {
         let file = unlikely_file(rng, turn / 2);
         return refused::round(rng, &file, tally);
@@ -92,5 +99,6 @@ mod tests {
     fn a_short_storm_holds() {
         let tally = super::storm(5, 1500).unwrap();
         assert!(tally.moved > 100 && tally.watchdogs > 50 && tally.refused > 400);
+        assert!(tally.requests == 6000 && tally.replies > 2000);
     }
 }

@@ -1,0 +1,2 @@
+-- What comes over a serial line.
+pub mod Held

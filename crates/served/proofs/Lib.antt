@@ -1,0 +1,5 @@
+pub mod Ways
+pub mod Changes
+pub mod Theorem
+pub mod Bytes
+pub mod Back

@@ -1,0 +1,42 @@
+-- As many cases differ as were run, at most; what is left of n falls; the tables keep their lengths. Assumes nothing.
+use Prim.Native.Nat.{_≤_, _-_}
+use mathlib.Core.Path.{_≡_}
+use mathlib.Core.Logic.{⊎-elim}
+use lib.ListN.{length}
+use native.Mathlib.Omega.{arith}
+use borrow.Author.Needs.{needs}
+use Rattle.vectors_requests.proofs.section.Statement.{statement}
+use Rattle.vectors_requests.proofs.section.Tie as tie
+
+abbrev Inv-loop : tie.InvT-loop
+Inv-loop fd n m₀ d₀ e₀ met₀ i₀ differ₀ t10 t11 m d e met i differ =
+    (differ ≤ i) × (i ≤ n) × (length m ≡ length m₀) × (length d ≡ length d₀) × (length e ≡ length e₀)
+
+abbrev μ-loop : tie.MeasureT-loop
+μ-loop fd n m₀ d₀ e₀ met₀ i₀ differ₀ t10 t11 m d e met i differ = n - i
+
+loop-again : tie.Need-loop-again Inv-loop μ-loop
+loop-again c = ⊎-elim (λ w. omega arith) (λ w. omega arith) (c .if1 .came)
+
+pub section-spec : {M : Type 1} → statement M
+section-spec =
+    tie.close
+    (tie.spec
+    Inv-loop
+    μ-loop
+    (λ c. search needs)
+    (λ c κs. search needs)
+    (λ c κs. search needs)
+    (λ c. search needs)
+    (λ c κs. search needs)
+    (λ c. search needs)
+    (λ c. search needs)
+    (λ c. search needs)
+    loop-again
+    (λ c. search needs)
+    (λ c. search needs)
+    (λ c κs. search needs)
+    (λ c. search needs)
+    (λ c. search needs)
+    (λ c. search needs)
+    (λ c. search needs))
