@@ -1,17 +1,20 @@
-/* Ninhalto for C: check, scan, use map, move and exchange of programs of the EC20 series, and answers to Modbus requests.
+/* Ninhalto for C: check, scan, use map, move and exchange of programs of the EC20 series, answers to Modbus requests, and the clashes of declared
+   blocks.
 
    The library is target/staticlib/libhost.a, which `rt staticlib host` proves and writes, for x86-64. Each function is proved to do, for every
-   input, what its definition says (crates/host/src, crates/ec20/specs, crates/modbus/specs); the words here say the same in short.
+   input, what its definition says (crates/host/src, crates/ec20/specs, crates/modbus/specs, crates/units/specs); the words here say the same in
+   short.
 
    Of every function:
-   - It asks nothing of file, request, tables and numbers: any bytes, any lengths, any values. What does not fit is refused.
-   - A pointer and the size_t after it are one lent part: so many bytes (of d and tv: so many words) can be read there, and written if it is not
-     const. No pointer is NULL, also where the length is 0. A word stands at an even address, a size_t at a multiple of 8.
-   - Lent parts that are written overlap no other. x and file, which are only read, may be one.
+   - It asks nothing of file, request, list, texts, tables and numbers: any bytes, any lengths, any values. What does not fit is refused.
+   - A pointer and the size_t after it are one lent part: so many bytes (of d and tv: so many words; of list: so many declarations; of report: so
+     many pairs) can be read there, and written if it is not const. No pointer is NULL, also where the length is 0. A word stands at an even
+     address, a declaration and a pair at a multiple of 4, a size_t at a multiple of 8.
+   - Lent parts that are written overlap no other. Parts that are only read, as x and file or both texts, may be one.
    - It writes what is named as written, and nothing else. It does not allocate, keeps nothing between calls, has no global state, calls memcpy
      and memset and nothing else, and always ends. It may be called from any thread, over different lent parts at the same time.
-   - Stack of the x86-64 code, measured (robustness/stack.c), in bytes: the check 3,776, a scan 39,456, the map 8,624, the move 5,584, the exchange 56, the answer 312. It is
-     not proved. Only the check's walk over loops calls itself, for each loop in a loop, at most 8 deep; a file of the deepest such calls was measured.
+   - Stack of the x86-64 code, measured (robustness/stack.c), in bytes: the check 3,776, a scan 39,456, the map 8,624, the move 5,584, the exchange 56, the answer 296,
+     the clashes 1,176, the longer of two texts 264. It is not proved. Only the check's walk over loops calls itself, for each loop in a loop, at most 8 deep; a file of the deepest such calls was measured.
 
    number: 0, or the number of a refusal. at: the record told, counted from 0; 0 where there is none.
 
@@ -25,16 +28,16 @@
      7  a label set twice, or a CJ whose label does not stand where it must                          the first
      8  more than 10,000,000 steps                                                                   0
      9  a table of a wrong size, or elapsed above 32767                                              0
-    10  the block is empty or not inside D                                                           0
+    10  the block is empty or not inside D; of a list: over 64 declarations, or such a block         0
     11  the pool's start is above its end, or its end above 8000                                     0
     12  the block meets WORK                                                                         0
     13  an operand's words are partly in the block                                                   the first
     14  no place                                                                                     0
-    16  the station is not from 1 to 247, or the reply buffer is under 256 bytes                     0
+    16  a station not from 1 to 247, a reply buffer under 256 bytes, or a report under 2,016 pairs   0
 
    The check gives 1 to 8, the scan 1 to 9, the map 1 to 8, the move 1 to 8 and 10 to 14, the exchange 9, 10, 12 and 14, the answer
-   9 and 16; the first that holds in this order (2, 3 and 4: of the first record that breaks one of them). A refused call leaves file, tables and
-   reply buffer as they were. */
+   9 and 16, the clashes 10 and 16, and of two texts none; the first that holds in this order (2, 3 and 4: of the first record that breaks one of
+   them). A refused call leaves file, tables, reply buffer and report as they were. */
 #ifndef NINHALTO_H
 #define NINHALTO_H
 
@@ -62,6 +65,20 @@ enum { NINHALTO_REPLY = 256 };
 
 /* What the answer tells as kind. */
 enum { NINHALTO_ANSWER_REFUSED, NINHALTO_ANSWER_SILENT, NINHALTO_ANSWER_REPLY };
+
+/* The most declarations of a list, and the least size of a report, in pairs: a list of so many has at most so many clashes. */
+enum { NINHALTO_DECLARATIONS = 64, NINHALTO_PAIRS = 2016 };
+
+/* A unit's declaration of a block: `length` D words from `start` on. 20 bytes. */
+struct ninhalto_declaration {
+    uint32_t unit;
+    uint8_t name[8];
+    uint32_t start;
+    uint32_t length;
+};
+
+/* What is told of two texts as text: whose first line it is. */
+enum { NINHALTO_TEXT_NONE, NINHALTO_TEXT_FIRST, NINHALTO_TEXT_SECOND };
 
 /* What the scan tells, by place in told. */
 enum {
@@ -115,6 +132,19 @@ void ninhalto_exchange(int16_t *d, size_t d_size, uint32_t start, uint32_t lengt
      value of function 5 other than 0000 and FF00; 02 coils or registers outside M0 to M1999 or D0 to D7999, or a write that meets WORK. */
 void ninhalto_answer(uint32_t station, const uint8_t *frame, size_t frame_size, uint8_t *m, size_t m_size, int16_t *d, size_t d_size, uint8_t *reply,
                      size_t reply_size, size_t *number, size_t *kind, size_t *length);
+
+/* The clashes of a list of declarations. Two of them clash if the name, all eight bytes, is the same and start or length differs, or the names differ and
+   the words overlap; the unit plays no part. Writes number; count, how many clashes there are, 0 if refused; and, unless refused, every clash
+   once as the first pairs of the report: its lower place, then its higher, counted from 0; in order of the lower place, then of the higher. The
+   other pairs stay as they were. */
+void ninhalto_clashes(const struct ninhalto_declaration *list, size_t list_size, uint32_t (*report)[2], size_t report_size, size_t *number,
+                      size_t *count);
+
+/* Of two declaration texts, the first line of the one that holds the longer block, the first text's if equal. A declaration text begins with
+   eight name bytes, none of them a line feed; a blank; a start; a blank; a length, both from 0 to 8000, in decimal with no leading zero; and a line
+   feed, which ends its first line; more may follow. Writes text, and size, the bytes of that line, its line feed included: both 0 where either
+   text is misspelt. */
+void ninhalto_longer(const uint8_t *one, size_t one_size, const uint8_t *two, size_t two_size, size_t *text, size_t *size);
 
 #ifdef __cplusplus
 }

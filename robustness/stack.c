@@ -62,6 +62,21 @@ static void answer(void) {
     }
 }
 
+/* The longest list, in which every two clash. */
+static void clashes(void) {
+    static struct ninhalto_declaration list[NINHALTO_DECLARATIONS];
+    static uint32_t report[NINHALTO_PAIRS][2];
+    for (uint32_t i = 0; i < NINHALTO_DECLARATIONS; i++) list[i] = (struct ninhalto_declaration){i, "MIXER", i, 64};
+    ninhalto_clashes(list, NINHALTO_DECLARATIONS, report, NINHALTO_PAIRS, &number, &other);
+    if (number || other != NINHALTO_PAIRS) exit(1);
+}
+
+static void longer(void) {
+    static const uint8_t one[] = "MIXER    7000 100\n", two[] = "FILLER   7000 1000\n";
+    ninhalto_longer(one, sizeof one - 1, two, sizeof two - 1, &other, &last);
+    if (other != NINHALTO_TEXT_SECOND) exit(1);
+}
+
 /* Bytes used of a painted stack by a context that runs this. */
 static size_t used(void (*run)(void)) {
     static ucontext_t here, there;
@@ -93,18 +108,19 @@ static void deepest(void) {
     trailer[0] = 1, trailer[2] = RECORDS, trailer[4] = (uint8_t)size, trailer[5] = (uint8_t)(size >> 8);
 }
 
-static void (*const run[])(void) = {check, scan, plain_scan, map, move, exchange, answer};
-static size_t most[7];
+static void (*const run[])(void) = {check, scan, plain_scan, map, move, exchange, answer, clashes, longer};
+enum { FUNCTIONS = sizeof run / sizeof *run };
+static size_t most[FUNCTIONS];
 
 static void measure(void) {
-    for (int f = 0; f < 7; f++) {
+    for (int f = 0; f < FUNCTIONS; f++) {
         size_t more = used(run[f]) - used(nothing);
         if (more > most[f]) most[f] = more;
     }
 }
 
 int main(int words, char **word) {
-    static const char *const name[] = {"check", "scan", "scan_unbudgeted", "map", "move", "exchange", "answer"};
+    static const char *const name[] = {"check", "scan", "scan_unbudgeted", "map", "move", "exchange", "answer", "clashes", "longer"};
     deepest();
     check();
     if (number) return 1;
@@ -119,6 +135,6 @@ int main(int words, char **word) {
         fclose(in);
         measure();
     }
-    for (int f = 0; f < 7; f++) printf("%s %zu\n", name[f], most[f]);
+    for (int f = 0; f < FUNCTIONS; f++) printf("%s %zu\n", name[f], most[f]);
     return 0;
 }

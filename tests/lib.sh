@@ -79,6 +79,7 @@ reason() {
     refusal=${refusal%% *}
     case $refusal in
     [2-7] | 13) told=": refusal $refusal at record $told_record (" ;;
+    15) told=": refusal 15 at line $told_record, " ;;
     *) told=": refusal $refusal: " ;;
     esac
     grep -qF "$told" "$room/said-err" || why="$why; no '$told' on standard error"

@@ -1,5 +1,6 @@
 /* A host in C: it checks a program, scans it, answers a Modbus request, prints which words of a block it uses, moves the block, exchanges its words, and
-   scans again. The two scans do the same. The program stands in memory; a real host reads it from a file. */
+   scans again. The two scans do the same. Last it tells which declarations of a list clash, and which of two declaration texts holds the longer block.
+   The program stands in memory; a real host reads it from a file. */
 #include "../../include/ninhalto.h"
 #include <stdio.h>
 #include <string.h>
@@ -45,7 +46,7 @@ static void compose(uint8_t file[SIZE]) {
     put(file + 20 * RECORDS + 4, SIZE, 4);
 }
 
-/* ---- the six calls */
+/* ---- the eight calls */
 
 static size_t check(const uint8_t *file, size_t size) {
     size_t number, at, records, steps;
@@ -107,6 +108,24 @@ static void answer(struct memory *c) {
     puts("");
 }
 
+/* Three units declare blocks: the second gives the first one's block another length, and the third one's block overlaps both. */
+static void clashes(void) {
+    static const struct ninhalto_declaration list[] = {{1, "MIXER", 100, 10}, {2, "MIXER", 100, 12}, {3, "FILLER", 108, 5}};
+    static uint32_t report[NINHALTO_PAIRS][2];
+    size_t number, count;
+    ninhalto_clashes(list, sizeof list / sizeof *list, report, NINHALTO_PAIRS, &number, &count);
+    printf("clashes: refusal %zu, count %zu\n", number, count);
+    for (size_t i = 0; i < count; i++) printf("%u %u\n", (unsigned)report[i][0], (unsigned)report[i][1]);
+}
+
+static void longer(void) {
+    static const char one[] = "MIXER    100 10\n", two[] = "MIXER    100 12\nFILLER   108 5\n";
+    size_t text, size;
+    ninhalto_longer((const uint8_t *)one, sizeof one - 1, (const uint8_t *)two, sizeof two - 1, &text, &size);
+    printf("longer: text %zu, ", text);
+    fwrite(text == NINHALTO_TEXT_SECOND ? two : one, 1, size, stdout);
+}
+
 static void words(const struct memory *c, size_t from) {
     for (size_t i = from; i < from + LENGTH; i++) printf("%d%c", c->d[i], i + 1 < from + LENGTH ? ' ' : '\n');
 }
@@ -134,5 +153,7 @@ int main(void) {
     exchange(&after, place);
     int same = !memcmp(&before, &after, sizeof before) && !memcmp(told, told_after, sizeof told);
     puts(same ? "the moved program does the same" : "the moved program does otherwise");
+    clashes();
+    longer();
     return !same;
 }

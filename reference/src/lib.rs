@@ -1,6 +1,6 @@
 //! The independent reference of Ninhalto: check, scan, use map, move and exchange for
-//! programs of the EC20 series, and answers to Modbus requests, written from the documents
-//! alone.
+//! programs of the EC20 series, answers to Modbus requests, and clashes of units, written from
+//! the documents alone.
 
 pub mod arith;
 pub mod cases;
@@ -24,5 +24,6 @@ pub mod scan;
 pub mod selftest;
 pub mod storm;
 pub mod structure;
+pub mod units;
 pub mod usemap;
 pub mod words;

@@ -40,7 +40,7 @@ impl Block {
 }
 
 /// The first record with an operand that lies partly in the block.
-fn first_straddler(records: &[Record], block: Block) -> Option<usize> {
+pub fn first_straddler(records: &[Record], block: Block) -> Option<usize> {
     let straddles = |e: &Extent| block.meets_extent(e) && !block.holds(e);
     records.iter().position(|record| extents(record).iter().any(straddles))
 }

@@ -1,10 +1,13 @@
-// The story of the mixer, whose program is in examples/, up to its trial: what it uses, and the move of the block as it is declared, which is
-// refused.
+// The story of the mixer, whose program is in examples/, up to its trial: what it uses, what two units declare, and the move of the block as one of them
+// declares it, which is refused.
+use calls::files;
+use calls::text;
 use calls::texts;
 use ec20::Mapped;
 use ec20::Moved;
 use telling::report;
 use telling::spans;
+use unit_commands::lists;
 
 // status: 0 where the story goes on, at `to`; else what came of the call.
 pub struct Told {
@@ -19,7 +22,28 @@ fn tell_map(m: Mapped, out: i32) -> i32 {
     spans::show(to, &read, &written)
 }
 
-// The block as it is declared, D100-D105, in the pool D300-D399.
+// The clash of the declarations in a unit list, and the split.
+fn tell_units(list: &[u8], old: &[u8], out: i32) -> i32 {
+    let to = texts::say(out, texts::UNITS, 0, 0, 0, 0);
+    let s = lists::show(unit_texts::read(list), old, to);
+    s.to
+}
+
+// The unit list that word 3 of the call names.
+fn tell_list(call: &[u8], old: &[u8], out: i32, err: i32) -> Told {
+    let mut list = io::large_buffer();
+    let loaded = files::load(text::word(call, 3), err, &mut list);
+    let n = loaded.n;
+    if loaded.whole {
+        return Told {
+            to: tell_units(&list[..n], old, out),
+            status: 0,
+        };
+    }
+    Told { to: out, status: 2 }
+}
+
+// The block as unit 1 declares it, D100-D105, in the pool D300-D399.
 fn tell_move(file: &mut [u8], out: i32) -> i32 {
     match mover::move_block(file, 100, 6, 300, 400) {
         Moved::Refused { number, record } => report::torn(out, file, number, record),
@@ -37,18 +61,21 @@ fn tell_declared(old: &[u8], new: &mut [u8], out: i32) -> i32 {
     tell_move(&mut new[0..n], to)
 }
 
-// The bytes of the program, and a buffer for the moved one.
-pub fn begin(path: &[u8], old: &[u8], new: &mut [u8], out: i32, err: i32) -> Told {
+// The bytes of the program, which word 1 names, and a buffer for the moved one.
+pub fn begin(call: &[u8], old: &[u8], new: &mut [u8], out: i32, err: i32) -> Told {
     let m = usemap::use_map(old);
     if m.number != 0 {
-        let refused = report::refused(path, old, m.number, m.at, out, err);
+        let refused = report::refused(text::word(call, 1), old, m.number, m.at, out, err);
         return Told {
             to: out,
             status: refused.status,
         };
     }
-    let to = tell_map(m, out);
-    let to = tell_declared(old, new, to);
+    let declared = tell_list(call, old, tell_map(m, out), err);
+    if declared.status != 0 {
+        return declared;
+    }
+    let to = tell_declared(old, new, declared.to);
     let to = texts::say(to, texts::SIDE_BY_SIDE, 0, 0, 0, 0);
     Told { to, status: 0 }
 }

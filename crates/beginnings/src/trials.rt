@@ -1,5 +1,5 @@
 // trial OLD START LENGTH POOLSTART POOLEND MEMORY SCANS: a move tried out in memory. Here is what comes ahead of the first scan: the files are read, the
-// program is moved in a copy, and the move is told. demo FILE MEMORY: the same for the mixer, after the story of it.
+// program is moved in a copy, and the move is told. demo FILE MEMORY UNITS: the same for the mixer, after the story of it.
 use crate::mixer;
 use crate::scans;
 use calls::asked;
@@ -171,7 +171,7 @@ fn told(
     err: i32,
 ) -> Begun {
     if t.told {
-        let b = mixer::begin(text::word(call, 1), old, new, out, err);
+        let b = mixer::begin(call, old, new, out, err);
         if b.status != 0 {
             return stopped(b.status);
         }

@@ -21,9 +21,13 @@ pub const ANSWER: usize = 7;
 
 pub const SLAVE: usize = 8;
 
-pub const NONE: usize = 9;
+pub const CLASHES: usize = 9;
 
-pub const PICTURE: usize = 10;
+pub const LONGER: usize = 10;
+
+pub const NONE: usize = 11;
+
+pub const PICTURE: usize = 12;
 
 // Whether a call of so many words is one of the command.
 fn fits(command: usize, count: usize) -> bool {
@@ -34,9 +38,11 @@ fn fits(command: usize, count: usize) -> bool {
         3 => count == 5,
         4 => (count == 4) | (count == 5),
         5 => count == 8,
-        6 => count == 3,
+        6 => count == 4,
         7 => count == 4,
         8 => count == 9,
+        9 => (count == 2) | (count == 3),
+        10 => count == 3,
         _ => false,
     }
 }
@@ -45,7 +51,7 @@ fn fits(command: usize, count: usize) -> bool {
 pub fn command(call: &[u8]) -> usize {
     let command = text::which(
         text::word(call, 0),
-        b"check\0map\0move\0exchange\0scan\0trial\0demo\0answer\0slave\0",
+        b"check\0map\0move\0exchange\0scan\0trial\0demo\0answer\0slave\0clashes\0longer\0",
         NONE,
     );
     let count = text::count(call);

@@ -108,6 +108,31 @@ pub const SERVED: usize = 136;
 
 pub const NO_SECONDS: usize = 137;
 
+// Of declarations: a clash of two, with their names between the texts, and which kind it is; how many there are; a split by a record, and the block that it
+// is partly in. BLOCK tells the words of a block and its unit, of one word the text after it. What 10 and 15 mean of a list.
+pub const CLASH: usize = 138;
+
+pub const BLOCK: usize = 139;
+
+pub const AND_NAME: usize = 141;
+
+pub const TWO_BLOCKS: usize = 142;
+
+pub const SHARED_WORDS: usize = 143;
+
+pub const CLASHES: usize = 144;
+
+pub const SPLIT: usize = 145;
+
+pub const PARTLY_IN: usize = 146;
+
+pub const UNITS_10: usize = 147;
+
+pub const REFUSAL_15: usize = 148;
+
+// The part of the mixer's story that has them.
+pub const UNITS: usize = 149;
+
 // Bytes to a descriptor. Answers the descriptor, or -1 where not all was written; nothing is written to -1. So what the last of a row of calls
 // answers tells of them all.
 pub fn put(to: i32, bytes: &[u8]) -> i32 {
@@ -207,15 +232,15 @@ D%    \0D%  \0D% \0\
 The mixer: examples/mixer.ec20, with a listing in examples/mixer.txt.\n\
 Two routines share a block of D words. While the mixer fills (X0 on), the recipe routine\n\
 keeps six 16-bit words there. While it empties (X1 on), the totals routine keeps 32-bit\n\
-pairs in the same words. The block is declared as D100-D105 and is to have a place of its\n\
-own among D300-D399.\n\
+pairs in the same words. Unit 1 declares the block as D100-D105, unit 2 as D100-D106. It is\n\
+to have a place of its own among D300-D399.\n\
 \n1. The words that the program uses:\n\0\
-\n2. The move of the declared block, D100-D105:\n\0\
+\n3. The move of the block as unit 1 declares it, D100-D105:\n\0\
 \x20  it goes through\n\0\
 \x20  refused by %: record %\0\
 \x20reaches over the edge of the block.\n\
 \x20  A move would tear its words apart: some would go and some would stay.\n\0\
-\n3. The move of the true block, D100-D106, and both programs side by side. Before each scan\n\
+\n4. The move of the true block, D100-D106, and both programs side by side. Before each scan\n\
 \x20  all inputs X are drawn anew; a scan has 1 unit of 100 ms and at most 1,000,000 steps.\n\
 \x20  Told are the steps, the record stopped at, and the first error with its record (1 is\n\
 \x20  a division by zero). Alike: both programs answer the same and, with block and place\n\
@@ -258,14 +283,26 @@ BUDGET: no number from 0 to 4294967295\n\0\
 SCANS: no number from 0 to 4294967295\n\0\
 ninhalto: the answer could not be written\n\0\
 ninhalto: the call is too long\n\0\
-usage: ninhalto check FILE, map [--picture] FILE, scan FILE MEMORY ELAPSED [BUDGET], move FILE START LENGTH POOLSTART POOLEND, exchange MEMORY START LENGTH PLACE, answer MEMORY STATION REQUEST, slave [--quiet] FILE MEMORY DEVICE STATION [SECONDS], trial OLD START LENGTH POOLSTART POOLEND MEMORY SCANS, demo, or help\n\0\
+usage: ninhalto check FILE, map [--picture] FILE, scan FILE MEMORY ELAPSED [BUDGET], move FILE START LENGTH POOLSTART POOLEND, exchange MEMORY START LENGTH PLACE, answer MEMORY STATION REQUEST, slave [--quiet] FILE MEMORY DEVICE STATION [SECONDS], clashes UNITS [FILE], longer TEXT1 TEXT2, trial OLD START LENGTH POOLSTART POOLEND MEMORY SCANS, demo, or help\n\0\
 %\n\0% replaced\n\0\
 : the station is not from 1 to 247\n\0\
 STATION: no number from 0 to 4294967295\n\0\
 silent\n\0\
 reply\0\
 scans % requests % replies % silent %\n\0\
-SECONDS: no number from 0 to 4294967295\n\0",
+SECONDS: no number from 0 to 4294967295\n\0\
+clash % % \"\0\
+\" D%-D% of unit %\0\" D% of unit %\0\
+, \"\0\
+: one name, two blocks\n\0\
+: two names, shared words\n\0\
+clashes %\n\0\
+split % record %\0\
+: partly in \"\0\
+: refusal 10: over 64 declarations, or a block is empty or not inside D0 to D7999\n\0\
+: refusal 15 at line %, counted from 0: not UNIT (0 to 65535), NAME (eight bytes), START and LENGTH with one blank between, or not ended\n\0\
+\n2. What both units declare, examples/mixer.units: a clash, and a block that the program itself\n\
+\x20  reaches over:\n\0",
         k,
         a,
         b,

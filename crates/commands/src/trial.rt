@@ -1,5 +1,5 @@
 // trial OLD START LENGTH POOLSTART POOLEND MEMORY SCANS: a move tried out in memory. Old and new program run side by side for so many scans, and
-// what they answer and leave is compared. No file is changed. demo FILE MEMORY: the same for the mixer, after the story of it.
+// what they answer and leave is compared. No file is changed. demo FILE MEMORY UNITS: the same for the mixer, after the story of it.
 use beginnings::trials;
 use calls::results::Outcome;
 use memories::exchanges;

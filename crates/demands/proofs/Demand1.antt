@@ -18,6 +18,10 @@ use Rattle.ec20.specs.Move.{block, pool, moveOf}
 use Rattle.ec20.specs.Scan.{scanOf}
 use Rattle.ec20.specs.UseMap.{mapIf, mapFor, useMapOf}
 use Rattle.modbus.specs.Answer.{answerOf}
+use Rattle.agreed.proofs.Answers.{answers}
+use Rattle.units.specs.Listed.{unitsOf}
+use Rattle.units.specs.Report.{reportOf}
+use Rattle.units.specs.Text.{longerOf}
 use Rattle.refusals.proofs.Refused.{refused-1, refused-2, refused-3, refused-4, refused-5, refused-6, refused-7, refused-8, not-refused, one-to-eight}
 use Rattle.demands.specs.Demand1.{OneAnswer, CheckNumbers, MapNumbers, Demand1}
 use Rattle.demands.specs.Lines.{Line9, Line10, Line11, Line12, First13, Line14, Lowest, Line14D}
@@ -61,6 +65,9 @@ demand-1 = record {
   move = λ f b l. one (moveOf f b l);
   exchange = λ d b q. one (exchangeOf d b q);
   answer = λ own f m d b. one (answerOf own f m d b);
+  clashes = λ v b. one (reportOf v b);
+  longer = λ x y. one (longerOf x y);
+  units = λ s. one (unitsOf s);
   ends = scan-ends;
   check-numbers = check-numbers;
   scan-numbers = scan-numbers;
@@ -68,6 +75,7 @@ demand-1 = record {
   move-numbers = move-numbers;
   exchange-numbers = exchange-numbers;
   answer-numbers = answer-numbers;
+  clashes-numbers = answers;
 }
 
 -- ---- and it is not for nothing: one call for each number from 9 on, by its line

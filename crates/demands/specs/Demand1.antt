@@ -24,10 +24,15 @@ use Rattle.ec20.specs.Scan.{scanOf, plainScan}
 use Rattle.ec20.specs.UseMap.{useMapOf}
 use Rattle.modbus.specs.declared.Answered.the-variants.{Refused as NotAnswered}
 use Rattle.modbus.specs.Answer.{answerOf}
+use Rattle.agreed.specs.Agreed.{Answers}
 use Rattle.refusals.specs.Frame.{Line1}
 use Rattle.refusals.specs.Records.{Line2, Line3, Line4}
 use Rattle.refusals.specs.Steps.{Line8, wOf}
 use Rattle.refusals.specs.Table.{recordAt, Not1, Not2-4, Not5, Not6, Not7, Not8, First2-4, First5, First6, First7}
+use Rattle.units.specs.Clash.{Declared}
+use Rattle.units.specs.Listed.{unitsOf}
+use Rattle.units.specs.Report.{reportOf}
+use Rattle.units.specs.Text.{longerOf}
 use Rattle.demands.specs.Lines.{Accepts, Line9, Line10, Not10, Line11, Not11, Line12, Not12, First13, Line14, Lowest, Asked, Line9D, Line14D, Line9R, Line16}
 
 -- "gets an answer": some result meets the contract, which is the equation with x, and no two differ
@@ -116,6 +121,9 @@ pub record Demand1 : Type 0 where
   pub move : (f : List ℕ) (b : Block) (l : Pool) → OneAnswer (moveOf f b l)
   pub exchange : (d : List ℤ) (b : Block) (q : ℕ) → OneAnswer (exchangeOf d b q)
   pub answer : (own : ℕ) (f m : List ℕ) (d : List ℤ) (b : List ℕ) → OneAnswer (answerOf own f m d b)
+  pub clashes : (v : Declared) (b : List (List ℕ)) → OneAnswer (reportOf v b)
+  pub longer : (one two : List ℕ) → OneAnswer (longerOf one two)
+  pub units : (s : List ℕ) → OneAnswer (unitsOf s)
   -- "and every scan ends"
   pub ends : (f : List ℕ) (e b : ℕ) (c : Memory) → Ends b (scanOf f e b c .answer)
   -- "Bad input is refused by the numbers 1 to 14 of document 01, in its order, each exactly when its line holds; a refusal changes no lent
@@ -126,3 +134,5 @@ pub record Demand1 : Type 0 where
   pub move-numbers : (f : List ℕ) (b : Block) (l : Pool) → MoveNumbers f b l
   pub exchange-numbers : (d : List ℤ) (b : Block) (q : ℕ) → ExchangeNumbers d b q
   pub answer-numbers : (own : ℕ) (f m : List ℕ) (d : List ℤ) (b : List ℕ) → AnswerNumbers own f m d b
+  -- of a list of declarations 10, then 16: `Answers` of the crate agreed
+  pub clashes-numbers : (v : Declared) (b : List (List ℕ)) → Answers v b

@@ -1,3 +1,4 @@
 -- What a host is told, and the tables that it gets back.
+pub mod LongerLaws
 pub mod SevenLaws
 pub mod ToldLaws

@@ -51,6 +51,9 @@ fn chosen(call: &[u8], out: i32, err: i32) -> Outcome {
     if command == asked::SLAVE {
         return serving::run(call, out, err);
     }
+    if unit_commands::knows(command) {
+        return unit_commands::run(command, call, out, err);
+    }
     file_commands::run(command, call, out, err)
 }
 

@@ -1,9 +1,10 @@
 //! A host in Rust: it checks a program, scans it, answers a Modbus request, prints which words of a block it uses, moves the block, exchanges its
-//! words, and scans again. The two scans do the same. The program stands in memory; a real host reads it from a file.
+//! words, and scans again. The two scans do the same. Last it tells which declarations of a list clash, and which of two declaration texts holds the
+//! longer block. The program stands in memory; a real host reads it from a file.
 
 mod ninhalto;
 
-use ninhalto::{Memory, Refusal, Told, UseMap};
+use ninhalto::{Declaration, Memory, Refusal, Told, UseMap};
 
 const BLOCK: u32 = 100;
 const LENGTH: u32 = 10;
@@ -108,6 +109,30 @@ fn answer(memory: &mut Memory) -> Result<(), Refusal> {
     Ok(())
 }
 
+/// Three units declare blocks: the second gives the first one's block another length, and the third one's block overlaps both.
+fn clashes() -> Result<(), Refusal> {
+    let list = [
+        Declaration { unit: 1, name: *b"MIXER\0\0\0", start: 100, length: 10 },
+        Declaration { unit: 2, name: *b"MIXER\0\0\0", start: 100, length: 12 },
+        Declaration { unit: 3, name: *b"FILLER\0\0", start: 108, length: 5 },
+    ];
+    let mut report = [[0; 2]; 2016];
+    let pairs = ninhalto::clashes(&list, &mut report)?;
+    println!("clashes: refusal 0, count {}", pairs.len());
+    for [lower, higher] in pairs {
+        println!("{lower} {higher}");
+    }
+    Ok(())
+}
+
+fn longer() {
+    let (one, two) = (b"MIXER    100 10\n", b"MIXER    100 12\nFILLER   108 5\n");
+    match ninhalto::longer(one, two) {
+        Some((text, line)) => print!("longer: text {text}, {}", String::from_utf8_lossy(line)),
+        None => println!("longer: misspelt"),
+    }
+}
+
 fn print_words(memory: &Memory, from: u32) {
     let words = &memory.d[from as usize..(from + LENGTH) as usize];
     println!("{}", words.iter().map(i16::to_string).collect::<Vec<_>>().join(" "));
@@ -145,5 +170,7 @@ fn main() -> Result<(), Refusal> {
         std::process::exit(1);
     }
     println!("the moved program does the same");
+    clashes()?;
+    longer();
     Ok(())
 }

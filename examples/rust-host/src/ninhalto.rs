@@ -27,6 +27,15 @@ pub struct UseMap {
     pub written: [u8; 1000],
 }
 
+/// A unit's declaration of a block of D words.
+#[repr(C)]
+pub struct Declaration {
+    pub unit: u32,
+    pub name: [u8; 8],
+    pub start: u32,
+    pub length: u32,
+}
+
 extern "C" {
     fn ninhalto_check(
         f: *const u8,
@@ -98,6 +107,22 @@ extern "C" {
         number: &mut usize,
         kind: &mut usize,
         length: &mut usize,
+    );
+    fn ninhalto_clashes(
+        list: *const Declaration,
+        list_size: usize,
+        report: *mut [u32; 2],
+        report_size: usize,
+        number: &mut usize,
+        count: &mut usize,
+    );
+    fn ninhalto_longer(
+        one: *const u8,
+        one_size: usize,
+        two: *const u8,
+        two_size: usize,
+        text: &mut usize,
+        size: &mut usize,
     );
 }
 
@@ -221,4 +246,36 @@ pub fn answer<'a>(
         )
     }
     unless_refused(number, 0, if kind == 2 { Some(&reply[..length]) } else { None })
+}
+
+/// The clashes of a list as pairs of places, at the start of the report, which has 2,016 pairs at least.
+pub fn clashes<'a>(
+    list: &[Declaration],
+    report: &'a mut [[u32; 2]],
+) -> Result<&'a [[u32; 2]], Refusal> {
+    let (mut number, mut count) = (0, 0);
+    unsafe {
+        ninhalto_clashes(
+            list.as_ptr(),
+            list.len(),
+            report.as_mut_ptr(),
+            report.len(),
+            &mut number,
+            &mut count,
+        )
+    }
+    unless_refused(number, 0, &report[..count])
+}
+
+/// Whose first line holds the longer block, 1 or 2, and that line; none where either text is misspelt.
+pub fn longer<'a>(one: &'a [u8], two: &'a [u8]) -> Option<(usize, &'a [u8])> {
+    let (mut text, mut size) = (0, 0);
+    unsafe {
+        ninhalto_longer(one.as_ptr(), one.len(), two.as_ptr(), two.len(), &mut text, &mut size)
+    }
+    match text {
+        1 => Some((1, &one[..size])),
+        2 => Some((2, &two[..size])),
+        _ => None,
+    }
 }

@@ -7,6 +7,7 @@ pub mod exchanges;
 pub mod filefield;
 pub mod groups;
 pub mod leaves;
+pub mod lists;
 pub mod make;
 pub mod maps;
 pub mod memories;
@@ -14,6 +15,8 @@ pub mod moves;
 pub mod reach;
 pub mod requests;
 pub mod scans;
+pub mod texts;
+pub mod unitlists;
 pub mod values;
 
 use crate::generate::rng::Rng;
@@ -21,8 +24,18 @@ use bytes::Writer;
 use filefield::FileField;
 
 /// The kinds of case files, in the order of their numbers from 1.
-pub const KINDS: [&str; 7] =
-    ["leaves", "checks", "scans", "moves", "exchanges", "maps", "requests"];
+pub const KINDS: [&str; 10] = [
+    "leaves",
+    "checks",
+    "scans",
+    "moves",
+    "exchanges",
+    "maps",
+    "requests",
+    "lists",
+    "texts",
+    "unitlists",
+];
 
 pub const LEAVES: u32 = 1;
 pub const CHECKS: u32 = 2;
@@ -31,6 +44,9 @@ pub const MOVES: u32 = 4;
 pub const EXCHANGES: u32 = 5;
 pub const MAPS: u32 = 6;
 pub const REQUESTS: u32 = 7;
+pub const LISTS: u32 = 8;
+pub const TEXTS: u32 = 9;
+pub const UNIT_LISTS: u32 = 10;
 
 /// The whole leaf file: word and pair leaves, then the section of groups.
 fn leaf_file(rng: &mut Rng, count: u32) -> Vec<u8> {
@@ -94,6 +110,30 @@ fn request_file(rng: &mut Rng, count: u32) -> Vec<u8> {
     out.bytes
 }
 
+fn list_file(rng: &mut Rng, count: u32) -> Vec<u8> {
+    let mut out = Writer::file(LISTS, count);
+    for case in make::list_cases(rng, count as usize) {
+        case.write(&mut out);
+    }
+    out.bytes
+}
+
+fn text_file(rng: &mut Rng, count: u32) -> Vec<u8> {
+    let mut out = Writer::file(TEXTS, count);
+    for case in make::text_cases(rng, count as usize) {
+        case.write(&mut out);
+    }
+    out.bytes
+}
+
+fn unit_list_file(rng: &mut Rng, count: u32) -> Vec<u8> {
+    let mut out = Writer::file(UNIT_LISTS, count);
+    for case in make::unit_list_cases(rng, count as usize) {
+        case.write(&mut out);
+    }
+    out.bytes
+}
+
 /// A whole case file by the name of its kind; none if there is no such kind.
 pub fn case_file(kind: &str, seed: u64, count: u32) -> Option<Vec<u8>> {
     let rng = &mut Rng::new(seed);
@@ -105,6 +145,9 @@ pub fn case_file(kind: &str, seed: u64, count: u32) -> Option<Vec<u8>> {
         "exchanges" => exchange_file(rng, count),
         "maps" => map_file(rng, count),
         "requests" => request_file(rng, count),
+        "lists" => list_file(rng, count),
+        "texts" => text_file(rng, count),
+        "unitlists" => unit_list_file(rng, count),
         _ => return None,
     })
 }

@@ -7,13 +7,31 @@ use super::exchanges::ExchangeCase;
 use super::filefield::FileField;
 use super::groups::Group;
 use super::leaves::Leaf;
+use super::lists::ListCase;
 use super::maps::MapCase;
 use super::moves::MoveCase;
 use super::requests::{RequestCase, Tables, SILENT};
 use super::scans::{ScanCase, ENDED, WATCHDOG};
+use super::texts::TextCase;
+use super::unitlists::UnitListCase;
 use crate::check::check;
 use crate::memory::IMAGE;
 use crate::scan::scan_watched;
+use crate::units::{Clash, MOST, ROOM};
+
+/// What the lists of declarations meet.
+#[derive(Clone, Copy, Default)]
+pub struct ListReach {
+    /// Lists that are taken: without a clash, with some, with all that there can be.
+    pub peaceful: u64,
+    pub some: u64,
+    pub full: u64,
+    /// Lists that are refused for their length.
+    pub over: u64,
+    /// Clashes of each kind.
+    pub two_blocks: u64,
+    pub shared_words: u64,
+}
 
 #[derive(Clone)]
 pub struct Reach {
@@ -34,6 +52,11 @@ pub struct Reach {
     /// Replies to requests: by exception code, and those without one by function.
     pub exceptions: [u64; 256],
     pub replies: [u64; 256],
+    pub lists: ListReach,
+    /// Pairs of texts: nothing, the first one's line, the second one's.
+    pub texts: [u64; 3],
+    /// Lines of unit lists that are well spelt, ahead of the first that is not.
+    pub lines: u64,
 }
 
 impl Default for Reach {
@@ -52,7 +75,32 @@ impl Default for Reach {
             silent: 0,
             exceptions: [0; 256],
             replies: [0; 256],
+            lists: ListReach::default(),
+            texts: [0; 3],
+            lines: 0,
         }
+    }
+}
+
+impl ListReach {
+    /// None if a clash is none, or not of two places of the list.
+    fn add(&mut self, case: &ListCase) -> Option<()> {
+        let list = &case.asked.list;
+        self.over += u64::from(list.len() > MOST);
+        if case.refusal == 0 {
+            match case.clashes.len() {
+                0 => self.peaceful += 1,
+                ROOM => self.full += 1,
+                _ => self.some += 1,
+            }
+        }
+        for &[low, high] in &case.clashes {
+            match list.get(low as usize)?.clash(*list.get(high as usize)?)? {
+                Clash::TwoBlocks => self.two_blocks += 1,
+                Clash::SharedWords => self.shared_words += 1,
+            }
+        }
+        Some(())
     }
 }
 
@@ -180,6 +228,33 @@ impl Reach {
         Some(())
     }
 
+    fn lists(&mut self, from: &mut Reader, count: u32) -> Option<()> {
+        for _ in 0..count {
+            let case = ListCase::read(from)?;
+            self.count(case.refusal, ListCase::solve(case.asked.clone()) == case);
+            self.lists.add(&case)?;
+        }
+        Some(())
+    }
+
+    fn texts(&mut self, from: &mut Reader, count: u32) -> Option<()> {
+        for _ in 0..count {
+            let case = TextCase::read(from)?;
+            self.count(0, TextCase::solve(case.texts.clone()) == case);
+            *self.texts.get_mut(case.which as usize)? += 1;
+        }
+        Some(())
+    }
+
+    fn unit_lists(&mut self, from: &mut Reader, count: u32) -> Option<()> {
+        for _ in 0..count {
+            let case = UnitListCase::read(from)?;
+            self.count(case.refusal, UnitListCase::solve(case.text.clone()) == case);
+            self.lines += u64::from(case.count);
+        }
+        Some(())
+    }
+
     /// Adds a whole case file; none if it is not one, or not exactly one.
     pub fn add(&mut self, bytes: &[u8]) -> Option<()> {
         let mut from = Reader::new(bytes);
@@ -192,6 +267,9 @@ impl Reach {
             super::EXCHANGES => self.exchanges(&mut from, count)?,
             super::MAPS => self.maps(&mut from, count)?,
             super::REQUESTS => self.requests(&mut from, count)?,
+            super::LISTS => self.lists(&mut from, count)?,
+            super::TEXTS => self.texts(&mut from, count)?,
+            super::UNIT_LISTS => self.unit_lists(&mut from, count)?,
             _ => return None,
         }
         from.at_end().then_some(())

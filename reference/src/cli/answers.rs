@@ -7,8 +7,8 @@ use crate::mover::{Block, Pool};
 use crate::refusal::Refusal;
 use crate::scan::{Answer, DEFAULT_BUDGET};
 
-fn said(text: String) -> Said {
-    Ok((text + "\n", 0))
+pub fn said(text: String) -> Said {
+    Ok(((text + "\n").into(), 0))
 }
 
 pub fn check(file: &str) -> Said {
@@ -51,7 +51,7 @@ pub fn map(file: &str) -> Said {
     match crate::usemap::use_map(&load(file)?) {
         Ok(map) => {
             let lines = map.stretches().into_iter().map(|stretch| format!("{stretch}\n"));
-            Ok((lines.collect(), 0))
+            Ok((lines.collect::<String>().into(), 0))
         }
         Err(refusal) => said(refusal.to_string()),
     }

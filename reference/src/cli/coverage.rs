@@ -7,8 +7,7 @@ use crate::instruction::Instruction;
 
 fn refusals(reach: &Reach) -> String {
     let mut text = format!("accepted      {:>8}\n", reach.refusals[0]);
-    // 15 is of text listings, which the reference does not read.
-    for number in (1..reach.refusals.len()).filter(|&number| number != 15) {
+    for number in 1..reach.refusals.len() {
         text += &format!("refusal {number:<5} {:>8}\n", reach.refusals[number]);
     }
     text
@@ -39,6 +38,15 @@ fn requests(reach: &Reach) -> String {
     text + "\n"
 }
 
+fn units(reach: &Reach) -> String {
+    let l = &reach.lists;
+    let lists = format!("without a clash {} with some {} with all {}", l.peaceful, l.some, l.full);
+    let kinds = format!("two blocks {} shared words {}", l.two_blocks, l.shared_words);
+    let [nothing, first, second] = reach.texts;
+    let texts = format!("texts first {first} second {second} nothing {nothing}");
+    format!("lists {lists} over {}\nclashes {kinds}\n{texts}\nunit lines {}\n", l.over, reach.lines)
+}
+
 /// Sums over all the files given.
 pub fn coverage(paths: &[&str]) -> Said {
     let mut reach = Reach::default();
@@ -52,7 +60,8 @@ pub fn coverage(paths: &[&str]) -> Said {
     text += &format!("error 1 {} error 2 {}\n", reach.errors[1], reach.errors[2]);
     text += &format!("groups and bits {}\n", reach.groups);
     text += &requests(&reach);
+    text += &units(&reach);
     let differ = reach.cases - reach.agree;
     text += &format!("{} agree, {differ} differ\n", reach.agree);
-    Ok((text, i32::from(differ > 0)))
+    Ok((text.into(), i32::from(differ > 0)))
 }

@@ -3,9 +3,11 @@
 mod answers;
 mod coverage;
 mod storm;
+mod units;
 mod vectors;
 
 use crate::selftest;
+use std::io::Write;
 
 const USAGE: &str = "usage: ninhalto-reference
   check FILE
@@ -14,27 +16,31 @@ const USAGE: &str = "usage: ninhalto-reference
   move FILE START LENGTH POOLSTART POOLEND
   exchange MEMORY START LENGTH PLACE
   answer MEMORY STATION REQUEST
-  leaves|checks|scans|moves|exchanges|maps|requests PATH SEED COUNT
+  clashes UNITS [FILE]
+  longer TEXT1 TEXT2
+  leaves|checks|scans|moves|exchanges|maps|requests|lists|texts|unitlists PATH SEED COUNT
   coverage CASEFILE..
   storm SEED COUNT
   selftest";
 
-/// What a subcommand says: its text and the exit status.
+/// What a subcommand says: its text, of any bytes, and the exit status.
 /// 0: an answer, a refusal too. 1: something differs. 2: a call that makes no sense.
-pub type Said = Result<(String, i32), String>;
+pub type Said = Result<(Vec<u8>, i32), String>;
 
 pub fn run(arguments: &[String]) -> i32 {
     let words: Vec<&str> = arguments.iter().map(String::as_str).collect();
-    match dispatch(&words) {
-        Ok((text, status)) => {
-            print!("{text}");
-            status
-        }
+    let said = dispatch(&words).and_then(|(text, status)| print(&text).map(|()| status));
+    match said {
+        Ok(status) => status,
         Err(complaint) => {
             eprintln!("{complaint}");
             2
         }
     }
+}
+
+fn print(text: &[u8]) -> Result<(), String> {
+    std::io::stdout().write_all(text).map_err(|error| error.to_string())
 }
 
 fn dispatch(words: &[&str]) -> Said {
@@ -48,6 +54,9 @@ fn dispatch(words: &[&str]) -> Said {
         ["move", file, numbers @ ..] => answers::move_block(file, numbers),
         ["exchange", memory, numbers @ ..] => answers::exchange(memory, numbers),
         ["answer", memory, station, request] => answers::answer(memory, number(station)?, request),
+        ["clashes", units] => units::clashes(units, None),
+        ["clashes", units, file] => units::clashes(units, Some(file)),
+        ["longer", first, second] => units::longer(first, second),
         ["selftest"] => Ok(self_test()),
         ["coverage", paths @ ..] if !paths.is_empty() => coverage::coverage(paths),
         ["storm", seed, count] => storm::storm(number(seed)?, number(count)?),
@@ -56,7 +65,7 @@ fn dispatch(words: &[&str]) -> Said {
     }
 }
 
-fn self_test() -> (String, i32) {
+fn self_test() -> (Vec<u8>, i32) {
     let lines = selftest::lines();
     let agree = lines.iter().filter(|line| line.agrees()).count();
     let mut text = String::new();
@@ -68,7 +77,7 @@ fn self_test() -> (String, i32) {
     }
     let differ = lines.len() - agree;
     text += &format!("{agree} agree, {differ} differ\n");
-    (text, i32::from(differ > 0))
+    (text.into(), i32::from(differ > 0))
 }
 
 /// An unsigned 32-bit number, as the entries take it.

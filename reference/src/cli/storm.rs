@@ -8,12 +8,13 @@ fn describe(t: &Tally) -> String {
     let scans = format!("scans {} watchdogs {}", t.scans, t.watchdogs);
     let moves = format!("moves {} accepted {} twin scans {}", t.moves, t.moved, t.twin_scans);
     let requests = format!("requests {} replies {}", t.requests, t.replies);
-    format!("{files}, {scans}, {moves}, {requests}\nall held\n")
+    let units = format!("lists {} clashes {} lines {}", t.lists, t.clashes, t.lines);
+    format!("{files}, {scans}, {moves}, {requests}, {units}\nall held\n")
 }
 
 pub fn storm(seed: u32, count: u32) -> Said {
     match crate::storm::storm(u64::from(seed), count) {
-        Ok(tally) => Ok((describe(&tally), 0)),
-        Err(what) => Ok((format!("DID NOT HOLD: {what}\n"), 1)),
+        Ok(tally) => Ok((describe(&tally).into(), 0)),
+        Err(what) => Ok((format!("DID NOT HOLD: {what}\n").into(), 1)),
     }
 }

@@ -8,5 +8,5 @@ pub fn write(kind: &str, path: &str, seed: u32, count: u32) -> Said {
         return Err(format!("no such kind of case file: {kind}"));
     };
     store(path, &bytes)?;
-    Ok((format!("{kind}: {} bytes\n", bytes.len()), 0))
+    Ok((format!("{kind}: {} bytes\n", bytes.len()).into(), 0))
 }

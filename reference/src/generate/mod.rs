@@ -1,6 +1,9 @@
-//! Generators of inputs: programs, faults, files, memories, blocks and pools, requests.
+//! Generators of inputs: programs, faults, files, memories, blocks and pools, requests,
+//! declarations.
 
 pub mod blocks;
+pub mod declaration_edges;
+pub mod declarations;
 pub mod edge_programs;
 pub mod edges;
 pub mod faults;
@@ -15,6 +18,7 @@ pub mod rng;
 mod rung_faults;
 mod rungs;
 pub mod specials;
+pub mod spellings;
 pub mod structure_faults;
 
 #[cfg(test)]

@@ -5,6 +5,7 @@ mod moves;
 mod refused;
 mod requests;
 mod scans;
+mod units;
 
 use crate::cases::memories::MemorySpec;
 use crate::compose;
@@ -29,6 +30,10 @@ pub struct Tally {
     pub twin_scans: u64,
     pub requests: u64,
     pub replies: u64,
+    pub lists: u64,
+    pub clashes: u64,
+    /// First lines that one of two texts handed back.
+    pub lines: u64,
 }
 
 /// What did not hold, in words.
@@ -69,6 +74,7 @@ fn accepted_program(rng: &mut Rng, turn: usize) -> crate::generate::program::Mad
 }
 
 fn round(rng: &mut Rng, turn: usize, tally: &mut Tally) -> Held {
+    units::round(rng, tally)?;
     for _ in 0..4 {
         let memory = random_memory(rng, &[]);
         requests::round(rng, &memory, tally)?;
@@ -100,5 +106,6 @@ mod tests {
         let tally = super::storm(5, 1500).unwrap();
         assert!(tally.moved > 100 && tally.watchdogs > 50 && tally.refused > 400);
         assert!(tally.requests == 6000 && tally.replies > 2000);
+        assert!(tally.lists == 1500 && tally.clashes > 10_000 && tally.lines > 800);
     }
 }

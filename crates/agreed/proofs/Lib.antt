@@ -1,0 +1,9 @@
+pub mod Entries
+pub mod Complete
+pub mod Even
+pub mod Answers
+pub mod Agreement
+pub mod Numbers
+pub mod Swapped
+pub mod Texts
+pub mod Instances

@@ -1,0 +1,4 @@
+pub mod RowLaws
+pub mod PairLaws
+pub mod Telling
+pub mod Reports

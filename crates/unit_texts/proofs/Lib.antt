@@ -1,0 +1,3 @@
+pub mod Report
+mod Lines
+mod Held

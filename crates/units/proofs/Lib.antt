@@ -1,0 +1,4 @@
+pub mod Computing
+pub mod Known
+pub mod Part
+pub mod Pairs

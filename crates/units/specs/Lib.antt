@@ -1,0 +1,6 @@
+pub mod Clash
+pub mod Report
+pub mod Spelling
+pub mod Text
+pub mod Listed
+pub mod Splits
