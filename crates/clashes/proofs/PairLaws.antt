@@ -1,14 +1,14 @@
 -- The report as it is filled pair by pair, what a row tells, and how many pairs there are at most. Assumes nothing.
 use Prim.Native.Nat.{ℕ, zero, suc, _+_, _-_, _*_, _/_, _%_, _<_, _≤_}
 use mathlib.Core.Bool.{Bool, true, false}
-use mathlib.Core.List.{List, [], _∷_, _++_}
+use mathlib.Core.List.{List, [], _∷_, _++_, append-assoc, append-nil}
 use mathlib.Core.Path.{_≡_, refl, sym, ap, subst, _∙_}
 use native.Mathlib.Omega.{arith}
 use native.Mathlib.Nat.{le-trans}
 use lib.ListN.{length, getD, set, drop, length-append, length-drop}
 use lib.Seq.{drop-cons, set-at}
 use lib.Dec.{eqb}
-use Rattle.units.proofs.Pairs.{pairsOf, of-64, append-assoc, append-nil}
+use Rattle.units.proofs.Pairs.{pairsOf, of-64}
 use Rattle.units.specs.Report.{pair, filled}
 use Rattle.clashes.specs.Rows.{noted, pairsIn, pairsFrom}
 

@@ -1,12 +1,13 @@
 -- The report by the rows is the report of the list. Assumes nothing.
 use Prim.Native.Nat.{ℕ, zero, suc, _+_, _-_, _*_, _/_, _%_, _<_, _≤_, min}
-use mathlib.Core.Bool.{Bool, true, false, not, _&&_}
+use mathlib.Core.Bool.{Bool, true, false, not, _&&_, and-assoc, and-true}
 use mathlib.Core.List.{List, [], _∷_, _++_}
 use mathlib.Core.Path.{_≡_, refl, sym, ap, ap₂, subst, _∙_}
 use native.Mathlib.Omega.{arith}
 use lib.ListN.{length, getD}
 use lib.Dec.{ltb, leb, eqb}
 use borrow.Author.Tests.{eq-eqb, ne-eqb, le-leb, lt-leb, leb-true, leb-false, not-true, not-false}
+use Rattle.ec20.proofs.Tests.{both}
 use Rattle.ec20.specs.Basics.{pick, one-if, then}
 use Rattle.ec20.specs.Devices.{ec20}
 use Rattle.ec20.specs.Move.{blockFault}
@@ -76,14 +77,6 @@ then-fine : (a b : Judged) → isFine (then a b) ≡ isFine a && isFine b
 then-fine Fine b = refl
 then-fine (Fault n k) b = refl
 
-and-assoc : (a b c : Bool) → a && (b && c) ≡ (a && b) && c
-and-assoc true b c = refl
-and-assoc false b c = refl
-
-and-true : (a : Bool) → a && true ≡ a
-and-true true = refl
-and-true false = refl
-
 -- the blocks of one declaration more, at the end
 blocks-more : (v : Declared) (i n : ℕ) → isFine (blocksFault v i (suc n)) ≡ isFine (blocksFault v i n) && rightBlock (v .at (i + n))
 unfolding blocksFault rightBlock
@@ -94,7 +87,7 @@ blocks-more v i (suc n) =
     let others : Judged = blocksFault v (suc i) n in
     then-fine first (blocksFault v (suc i) (suc n))
     ∙ ap (λ (t : Bool). isFine first && t) (blocks-more v (suc i) n)
-    ∙ and-assoc (isFine first) (isFine others) (rightBlock (v .at (suc i + n)))
+    ∙ sym (and-assoc (isFine first) (isFine others) (rightBlock (v .at (suc i + n))))
     ∙ ap (λ (t : Bool). t && rightBlock (v .at (suc i + n))) (sym (then-fine first others))
     ∙ ap (λ (p : ℕ). isFine (then first others) && rightBlock (v .at p)) {x = suc i + n} {y = i + suc n} (omega arith)
 
@@ -141,11 +134,7 @@ told-is v b = by-count v b (leb (v .count) 64) refl
 
 -- what `told` knows where it goes on
 pub at-most-64 : (n : ℕ) (t : Bool) → not (leb n 64 && t) ≡ false → n ≤ 64
-at-most-64 n t e = leb-true n 64 (both (leb n 64) (not-false (leb n 64 && t) e))
-  where
-    both : (a : Bool) → a && t ≡ true → a ≡ true
-    both true h = refl
-    both false h = h
+at-most-64 n t e = leb-true n 64 (both (leb n 64) t (not-false (leb n 64 && t) e) .0)
 
 -- the same, as the calls give it: m places are looked at, their rows are r, and from these the report is made
 pub by-rows : (v : Declared) (b : List (List ℕ)) (m : ℕ) (r : Rows) (a : Clashed) (after : List (List ℕ)) → m ≡ min (v .count) 64 → r ≡ rowsOf v m m → reported a after ≡ toldOf r (v .count) b → reported a after ≡ reportOf v b

@@ -10,6 +10,7 @@ use lib.ListN.{length, getD, set, length-set, replicate, length-replicate}
 use lib.Seq.{getD-set-same, getD-set-other}
 use lib.Dec.{ltb}
 use borrow.Author.Tests.{ltb-true, ltb-false}
+use Rattle.ec20.proofs.Tests.{one-small}
 use Rattle.ec20.specs.Basics.{one-if}
 use Rattle.units.specs.Clash.{Declared, clashOf}
 use Rattle.clashes.specs.Rows.{grownBy, rowOf, noRows, withRow, rowsOf}
@@ -26,17 +27,13 @@ row-turn v i j n r c p l er ec =
     let whole : rowOf v i j (n - j) ≡ rowOf v i (suc (j - 1)) (n - j) = ap (λ (k : ℕ). rowOf v i k (n - j)) {x = j} {y = suc (j - 1)} (omega arith) in
     rw (er ∙ whole, ec) (row-ahead v i (j - 1) (n - (j - 1)) (n - j) (omega arith))
 
-one-most : (b : Bool) → one-if b ≤ 1
-one-most true = omega arith
-one-most false = omega arith
-
 -- a row of n places is below 2 ^ n
 pub row-below : (v : Declared) (i j n : ℕ) → rowOf v i j n < 2 ^ n
 unfolding rowOf
 row-below v i j zero = omega arith
 row-below v i j (suc n) =
     let rest : rowOf v i (suc j) n < 2 ^ n = row-below v i (suc j) n in
-    let bit : one-if (clashOf (v .at i) (v .at j)) ≤ 1 = one-most (clashOf (v .at i) (v .at j)) in
+    let bit : one-if (clashOf (v .at i) (v .at j)) < 2 = one-small (clashOf (v .at i) (v .at j)) in
     omega (arith, rest, bit)
 
 -- no place

@@ -1,11 +1,10 @@
 -- A report that is filled in a loop: the pairs t are told, from number `from` on, and with those that are to come they are the whole. Assumes nothing.
 use Prim.Native.Nat.{ℕ, _+_, _≤_}
-use mathlib.Core.List.{List, [], _++_}
+use mathlib.Core.List.{List, [], _++_, append-assoc, append-nil}
 use mathlib.Core.Path.{_≡_, refl, sym, ap, _∙_}
 use native.Mathlib.Omega.{arith}
 use lib.ListN.{length, length-append}
 use Rattle.units.specs.Report.{filled}
-use Rattle.units.proofs.Pairs.{append-assoc, append-nil}
 
 -- what a call that tells the pairs t, from number `from` on, makes of a report
 abbrev pub Fills : ℕ → List (List ℕ) → List (List ℕ) → List (List ℕ) → Type 0

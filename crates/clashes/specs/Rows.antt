@@ -1,6 +1,6 @@
 -- Which places clash, as numbers: for each place one, in which a bit stands for each place after it, the next one lowest. So a list is looked at once, and
 -- the report is made from what was found.
-use Prim.Native.Nat.{ℕ, zero, suc, _+_, _-_, _*_, _/_, _%_, min}
+use Prim.Native.Nat.{ℕ, zero, suc, _+_, _-_, _*_, _/_, _%_}
 use mathlib.Core.Bool.{Bool, true, false, _&&_}
 use mathlib.Core.List.{List, [], _∷_, _++_}
 use lib.ListN.{getD, set, replicate}

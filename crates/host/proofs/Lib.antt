@@ -1,4 +1,3 @@
 -- What a host is told, and the tables that it gets back.
-pub mod LongerLaws
 pub mod SevenLaws
 pub mod ToldLaws

@@ -1,7 +1,6 @@
 // Of two declaration texts, the one that holds the longer block.
 ghost use Rattle.units.specs.Text.{toldByLonger};
 ghost use mathlib.Core.Path.{_≡_};
-use units::Line;
 
 // The first line of whichever text holds the longer block, the first text's if equal: which text, 1 or 2 (0: either is misspelt), and how many bytes its
 // first line has (0: there is none).
@@ -10,33 +9,7 @@ pub extern "C" fn ninhalto_longer(one: &[u8], two: &[u8], text: &mut usize, size
     ensures { λ _. ⌜ now (text .exit) ≡ toldByLonger (now (one .entry)) (now (two .entry)) .text ⌝ }
     ensures { λ _. ⌜ now (size .exit) ≡ toldByLonger (now (one .entry)) (now (two .entry)) .size ⌝ }
 {
-    match spelling::line(one, 0, 8000) {
-        Line::Spelt {
-            start: _,
-            length: m,
-            next: e,
-        } => match spelling::line(two, 0, 8000) {
-            Line::Spelt {
-                start: _,
-                length: n,
-                next: f,
-            } => {
-                if m < n {
-                    *text = 2;
-                    *size = f;
-                } else {
-                    *text = 1;
-                    *size = e;
-                }
-            }
-            Line::Misspelt => {
-                *text = 0;
-                *size = 0;
-            }
-        },
-        Line::Misspelt => {
-            *text = 0;
-            *size = 0;
-        }
-    }
+    let p = longer::which(one, two);
+    *text = p.text;
+    *size = p.size;
 }

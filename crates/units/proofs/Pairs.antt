@@ -1,7 +1,6 @@
--- How many pairs so many places have, and lists put together. Assumes nothing.
+-- How many pairs so many places have. Assumes nothing.
 use Prim.Native.Nat.{ℕ, zero, suc, _+_, _-_, _≤_}
-use mathlib.Core.List.{List, [], _∷_, _++_}
-use mathlib.Core.Path.{_≡_, refl, ap, subst}
+use mathlib.Core.Path.{_≡_, ap, subst}
 use native.Mathlib.Omega.{arith}
 
 -- the pairs of n places: each with those after it
@@ -20,11 +19,3 @@ more-places n (suc k) =
 pub of-64 : (n : ℕ) → n ≤ 64 → pairsOf n ≤ 2016
 unfolding pairsOf
 of-64 n l = subst (λ (m : ℕ). pairsOf n ≤ pairsOf m) {x = (64 - n) + n} {y = 64} (omega arith) (more-places n (64 - n))
-
-pub append-assoc : {A : Type 0} (x y z : List A) → (x ++ y) ++ z ≡ x ++ (y ++ z)
-append-assoc [] y z = refl
-append-assoc (a ∷ x) y z = ap (λ (l : List _). a ∷ l) (append-assoc x y z)
-
-pub append-nil : {A : Type 0} (x : List A) → x ++ [] ≡ x
-append-nil [] = refl
-append-nil (a ∷ x) = ap (λ (l : List _). a ∷ l) (append-nil x)

@@ -1,7 +1,6 @@
 -- A unit list as text (ours): a line for each declaration, its unit (0 to 65535), blank, and the declaration as in a declaration text, with start and length
 -- up to 4294967295, so that 10 is for the list to say. A line that is not so spelt is 15.
-use Prim.Native.Nat.{ℕ, zero, suc, _+_, _-_, _^_}
-use mathlib.Core.Bool.{Bool}
+use Prim.Native.Nat.{ℕ, zero, suc, _+_}
 use mathlib.Core.List.{List, [], _∷_}
 use lib.ListN.{length, take, drop}
 use lib.Dec.{leb, eqb}

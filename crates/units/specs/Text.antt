@@ -1,7 +1,7 @@
 -- "For the operator, given two lent declaration texts (eight name bytes, blank, start, blank, length, both 0 to 8000 spelt as in (i), line feed; more may
 -- follow), hand back the part of whichever holds the longer block: its first line, the first text's if equal, nothing if either is misspelt."
-use Prim.Native.Nat.{ℕ, zero, suc, _+_}
-use mathlib.Core.Bool.{Bool, false, _&&_, _||_, not}
+use Prim.Native.Nat.{ℕ, _+_}
+use mathlib.Core.Bool.{Bool, _&&_, not}
 use mathlib.Core.List.{List, []}
 use lib.ListN.{take}
 use lib.Dec.{ltb, eqb}
