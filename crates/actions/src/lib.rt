@@ -4,7 +4,7 @@ ghost use Rattle.ec20.specs.Basics.{pick};
 ghost use Rattle.ec20.specs.File.{operandAt};
 ghost use Rattle.ec20.specs.Flow.{acted, failed};
 ghost use Rattle.ec20.specs.Memory.{memory};
-ghost use Rattle.ec20.specs.Step.{world, widthOf, wordOf};
+ghost use Rattle.ec20.specs.Step.{Open, world, widthOf, wordOf};
 ghost use Rattle.instructions.specs.Cells.{cells};
 ghost use Rattle.outcomes.specs.Done.{WordAt, secondOf, targetOf};
 ghost use lib.Dec.{eqb};
@@ -39,7 +39,7 @@ pub fn word(
 ) -> Machine
     requires { ⌜ now rows ≡ cells ⌝ }
     requires { ⌜ WordAt (widthOf n) n i (now f) × (s .pc < 2 ^ 63) ⌝ }
-    ensures { λ q. ⌜ ((c left back : List ℕ) → world (memory (now (x .entry)) (now (y .exit)) (now (m .exit)) (now (sm .exit)) c (now (d .exit)) (now (tv .entry))) left back q ≡ wordOf n (operandAt (now (f .entry)) (i + 2)) (secondOf (now (f .entry)) n i) (targetOf (now (f .entry)) n i) (world (memory (now (x .entry)) (now (y .entry)) (now (m .entry)) (now (sm .entry)) c (now (d .entry)) (now (tv .entry))) left back s)) ⌝ }
+    ensures { λ q. ⌜ ((c : List ℕ) (o : Open) → world (memory (now (x .entry)) (now (y .exit)) (now (m .exit)) (now (sm .exit)) c (now (d .exit)) (now (tv .entry))) o q ≡ wordOf n (operandAt (now (f .entry)) (i + 2)) (secondOf (now (f .entry)) n i) (targetOf (now (f .entry)) n i) (world (memory (now (x .entry)) (now (y .entry)) (now (m .entry)) (now (sm .entry)) c (now (d .entry)) (now (tv .entry))) o s)) ⌝ }
 {
     if !flow::is_on(s) {
         return flow::act(s);

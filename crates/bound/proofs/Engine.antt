@@ -10,7 +10,7 @@ use Rattle.ec20.specs.declared.Instr.{Instr}
 use Rattle.ec20.specs.declared.Instr.the-variants.{Nop, Contact, Compare, Join, Branch, Coil, Timer, For, Next, Jump, Label, End, Word}
 use Rattle.ec20.specs.Basics.{pick}
 use Rattle.ec20.specs.Code.{Program}
-use Rattle.ec20.specs.Control.{Controls, controlOf, controlsOf, labelOf}
+use Rattle.ec20.specs.Control.{Controls, controlOf, controlsOf, firstLabel}
 use Rattle.ec20.specs.Flow.{isOn, gone}
 use Rattle.ec20.specs.Step.{World, going, forOf, closeOf, jumpOf, execOf, stepOf}
 use Rattle.bound.specs.Small.{goto, toFound, pastFound, openOf, passOf, doneOf, moveOn, loopsOf, control}
@@ -21,7 +21,7 @@ use Rattle.bound.proofs.Onward.{Ahead, ahead, contact-on, compare-on, j
 
 -- the tables of loops have eight entries each
 abbrev pub Eights : World → Type 0
-Eights w = (length (w .left) ≡ 8) × (length (w .back) ≡ 8)
+Eights w = (length (w .loops .left) ≡ 8) × (length (w .loops .back) ≡ 8)
 
 -- what goes on to the next record
 on-same : (w u : World) → Ahead w u → control u ≡ goto (control w) (w .st .pc + 1)
@@ -46,8 +46,8 @@ module _ (p : Program) where
   unfolding forOf openOf pastFound
   for-same w n e u =
       let d : w .st .depth < 8 = u .room in
-      let l : length (loopsOf (w .st .depth) (w .left) (w .back)) ≡ w .st .depth = length-loops (w .st .depth) (w .left) (w .back) in
-      let o = opened (w .st .depth) n (w .st .pc + 1) (w .left) (w .back) (omega arith) (omega arith) in
+      let l : length (loopsOf (w .st .depth) (w .loops .left) (w .loops .back)) ≡ w .st .depth = length-loops (w .st .depth) (w .loops .left) (w .loops .back) in
+      let o = opened (w .st .depth) n (w .st .pc + 1) (w .loops .left) (w .loops .back) (omega arith) (omega arith) in
       both control (eqb n 0) _ _ _ _ (λ _. rw (u .found)) (λ _. rw (l, lt-ltb (w .st .depth) 8 d, o))
 
   -- NEXT
@@ -55,17 +55,17 @@ module _ (p : Program) where
   unfolding closeOf passOf loopsOf
   next-same w e r u = go (w .st .depth) refl
     where
-      go : (d : ℕ) → w .st .depth ≡ d → control (closeOf w) ≡ passOf (loopsOf (w .st .depth) (w .left) (w .back)) (control w)
+      go : (d : ℕ) → w .st .depth ≡ d → control (closeOf w) ≡ passOf (loopsOf (w .st .depth) (w .loops .left) (w .loops .back)) (control w)
       go zero q = absurd (omega arith)
       go (suc d) q =
           let i : suc d - 1 ≡ d = omega arith in
-          let o = passed d (getD (w .left) d 0 - 1) (w .left) (w .back) (omega arith) in
-          rw (q, i) (both control (ltb 1 (getD (w .left) d 0)) _ _ _ _ (λ _. rw o) (λ _. refl))
+          let o = passed d (getD (w .loops .left) d 0 - 1) (w .loops .left) (w .loops .back) (omega arith) in
+          rw (q, i) (both control (ltb 1 (getD (w .loops .left) d 0)) _ _ _ _ (λ _. rw o) (λ _. refl))
 
   -- CJ
   jump-same : (w : World) (l : ℕ) → Lands code (p .count) (w .st .pc) l
       → control (going w (w .mem) (jumpOf p l (w .st)))
-      ≡ pick (isOn (w .st)) (toFound (labelOf code (p .count) l) (control w)) (goto (control w) (w .st .pc + 1))
+      ≡ pick (isOn (w .st)) (toFound (firstLabel code (p .count) l) (control w)) (goto (control w) (w .st .pc + 1))
   unfolding jumpOf toFound
   jump-same w l u =
       both (λ (k : ℕ). control (going w (w .mem) (gone (w .st) k (w .st .depth)))) (isOn (w .st)) _ _ _ _
@@ -103,7 +103,7 @@ module _ (p : Program) where
       picked Eights (eqb c 0) _ _
       (λ _. x)
       (λ _. picked Eights (ltb (w .st .depth) 8) _ _ (λ _. (simp length-set (x .0), simp length-set (x .1))) (λ _. x))
-  exec-eights e w Next x = picked Eights (ltb 1 (getD (w .left) (w .st .depth - 1) 0)) _ _ (λ _. (simp length-set (x .0), x .1)) (λ _. x)
+  exec-eights e w Next x = picked Eights (ltb 1 (getD (w .loops .left) (w .st .depth - 1) 0)) _ _ (λ _. (simp length-set (x .0), x .1)) (λ _. x)
   exec-eights e w (Jump l) x = x
   exec-eights e w (Label l) x = x
   exec-eights e w End x = x

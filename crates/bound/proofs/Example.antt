@@ -54,7 +54,7 @@ unfolding computing
 real-ok = refl
 
 -- so, whatever memory, elapsed units and budget are, no scan of it makes more than 58 steps
-real-most : (e b : ℕ) (c : Memory) → runOf (programOf real) e b 0 (startWorld c) .steps ≤ 58
+real-most : (e b : ℕ) (c : Memory) → runOf (programOf real) e b 0 (startWorld ec20 c) .steps ≤ 58
 real-most e b c = at-most-w ec20 real 22 58 real-ok e c b
 
 -- and with a budget of 58 the answer of memory that fits is "ended"
@@ -67,7 +67,7 @@ unfolding checkOf
 real-ends = scan-of-ends real 22 58 real-ok 7 58 blank (omega arith) blank-fits
 
 -- no jump taken: X1 and M0 are off
-none-taken : runOf (programOf real) 0 60 0 (startWorld blank) .steps ≡ 58
+none-taken : runOf (programOf real) 0 60 0 (startWorld ec20 blank) .steps ≡ 58
 unfolding computing
 none-taken = refl
 
@@ -75,7 +75,7 @@ none-taken = refl
 on : Memory
 on = memory (2 ∷ replicate 31 0) (blank .y) (1 ∷ replicate 249 0) (blank .sm) (blank .t) (blank .d) (blank .tv)
 
-both-taken : runOf (programOf real) 0 60 0 (startWorld on) .steps ≡ 26
+both-taken : runOf (programOf real) 0 60 0 (startWorld ec20 on) .steps ≡ 26
 unfolding computing on
 both-taken = refl
 
@@ -107,5 +107,5 @@ t9-straight (suc (suc (suc zero))) l h e = let z : _≡_ {A = ℕ} 0 1 = cc in o
 t9-straight (suc (suc (suc (suc zero)))) l h e = let z : _≡_ {A = ℕ} 0 1 = cc in omega arith
 t9-straight (suc (suc (suc (suc (suc k))))) l h e = omega arith
 
-t9-steps : (e b : ℕ) (c : Memory) → 11 ≤ b → runOf (programOf t9) e b 0 (startWorld c) .steps ≡ 11
+t9-steps : (e b : ℕ) (c : Memory) → 11 ≤ b → runOf (programOf t9) e b 0 (startWorld ec20 c) .steps ≡ 11
 t9-steps e b c h = no-jumps ec20 t9 5 11 t9-ok e c b h t9-straight

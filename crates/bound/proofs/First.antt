@@ -17,13 +17,13 @@ from-here : (test : ℕ → Bool) (k t : ℕ) → test k ≡ false → ((i : ℕ
 from-here test k t f g j p q = elim (ℕ-discrete j k) [ yes d ↦ rw d f | no d ↦ g j (omega arith) q ]
 
 -- a search that finds nothing
-pub no-first : (test : ℕ → Bool) (n k : ℕ) → firstAt test n k ≡ Nowhere → (j : ℕ) → k ≤ j → j < k + n → test j ≡ false
+pub no-first : (test : ℕ → Bool) (n k : ℕ) → firstAt test k n ≡ Nowhere → (j : ℕ) → k ≤ j → j < k + n → test j ≡ false
 unfolding firstAt
 no-first test zero k e = λ j a b. absurd (omega arith)
 no-first test (suc n) k e = go (test k) refl e (λ g j a b. no-first test n (k + 1) g j a (omega arith))
   where
-    go : (t : Bool) → test k ≡ t → pick t (At k) (firstAt test n (k + 1)) ≡ Nowhere
-        → (firstAt test n (k + 1) ≡ Nowhere → (j : ℕ) → k + 1 ≤ j → j < k + suc n → test j ≡ false) → (j : ℕ) → k ≤ j → j < k + suc n
+    go : (t : Bool) → test k ≡ t → pick t (At k) (firstAt test (k + 1) n) ≡ Nowhere
+        → (firstAt test (k + 1) n ≡ Nowhere → (j : ℕ) → k + 1 ≤ j → j < k + suc n → test j ≡ false) → (j : ℕ) → k ≤ j → j < k + suc n
         → test j ≡ false
     go true f g rec = let z : _≡_ {A = ℕ} 0 1 = cc in absurd (omega arith)
     go false f g rec = from-here test k (k + suc n) f (rec g)
@@ -35,12 +35,12 @@ pub record First (test : ℕ → Bool) (n k t : ℕ) : Type 0 where
   pub low : k ≤ t
   pub high : t < k + n
 
-pub first-at : (test : ℕ → Bool) (n k t : ℕ) → firstAt test n k ≡ At t → First test n k t
+pub first-at : (test : ℕ → Bool) (n k t : ℕ) → firstAt test k n ≡ At t → First test n k t
 unfolding firstAt
 first-at test zero k t e = let z : _≡_ {A = ℕ} 0 1 = cc in absurd (omega arith)
 first-at test (suc n) k t e = go (test k) refl e (λ g. first-at test n (k + 1) t g)
   where
-    go : (b : Bool) → test k ≡ b → pick b (At k) (firstAt test n (k + 1)) ≡ At t → (firstAt test n (k + 1) ≡ At t → First test n (k + 1) t)
+    go : (b : Bool) → test k ≡ b → pick b (At k) (firstAt test (k + 1) n) ≡ At t → (firstAt test (k + 1) n ≡ At t → First test n (k + 1) t)
         → First test (suc n) k t
     go true f g rec =
         let a : k ≡ t = cc in

@@ -10,8 +10,8 @@ use Rattle.ec20.specs.declared.Control.{Control}
 use Rattle.ec20.specs.declared.Control.the-variants.{Jumps}
 use Rattle.ec20.specs.declared.Found.the-variants.{At}
 use Rattle.ec20.specs.declared.Walked.the-variants.{Done}
-use Rattle.ec20.specs.Control.{Controls, marks, findFrom, labelOf}
-use Rattle.ec20.specs.Loops.{sequenceOf, walkOf}
+use Rattle.ec20.specs.Control.{Controls, marks, foundInBody, firstLabel}
+use Rattle.ec20.specs.Walkers.{sequenceOf, walkOf}
 use Rattle.ec20.specs.Labels.{same, labelFault, opensOf, Stands}
 use Rattle.bound.proofs.Rows.{Seq, empty, plain, loop, low, Complete, top, walked}
 use Rattle.bound.proofs.Home.{Home, outside, inside, locate}
@@ -31,7 +31,7 @@ module _ (code : Controls) (count : ℕ) where
     -- a label that stands at the level of a row is found from its start
     reach : {d s e w : ℕ} → Seq code d s e w → e < count → (t : ℕ) → s ≤ t → t < e → opensOf code t ≡ opensOf code s
         → ((j : ℕ) → s ≤ j → j < t → marks l (code j) ≡ false)
-        → marks l (code t) ≡ true → findFrom code count (marks l) s 0 ≡ At t
+        → marks l (code t) ≡ true → foundInBody code count (marks l) 0 s ≡ At t
     unfolding marks
     reach empty i t p q o f g = absurd (omega arith)
     reach {s = s} (plain u r) i t p q o f g =
@@ -65,7 +65,7 @@ module _ (code : Controls) (count : ℕ) where
       other e x f g = let h : false ≡ true = sym f ∙ sym (ap (marks l) x) ∙ g in let z : _≡_ {A = ℕ} 0 1 = cc in absurd (omega arith)
 
       -- what the search finds stands in the same body
-      found-stands : (t : ℕ) → Home code count k → labelOf code count l ≡ At t → findFrom code count (marks l) (k + 1) 0 ≡ At t
+      found-stands : (t : ℕ) → Home code count k → firstLabel code count l ≡ At t → foundInBody code count (marks l) 0 (k + 1) ≡ At t
           → Stands code count k l t
       unfolding marks
       found-stands t (outside {e = e} r x z) a f =
@@ -80,7 +80,7 @@ module _ (code : Controls) (count : ℕ) where
           record { first = a; later = omega arith; body = sym (row-opens code (m .rest)) ∙ row-opens code r }
 
       -- and what stands there is found
-      stands-found : (t : ℕ) → Home code count k → Stands code count k l t → findFrom code count (marks l) (k + 1) 0 ≡ At t
+      stands-found : (t : ℕ) → Home code count k → Stands code count k l t → foundInBody code count (marks l) 0 (k + 1) ≡ At t
       unfolding marks
       stands-found t (outside {e = e} r x z) s =
           let p = peel r q (λ y. let z : _≡_ {A = ℕ} 0 1 = cc in omega arith) in

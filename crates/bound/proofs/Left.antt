@@ -6,7 +6,7 @@ use native.Mathlib.Omega.{arith}
 use lib.ListN.{length}
 use Rattle.ec20.specs.declared.Control.the-variants.{Closes, Ends}
 use Rattle.ec20.specs.declared.Found.the-variants.{Nowhere}
-use Rattle.ec20.specs.Control.{Controls, marks, findFrom}
+use Rattle.ec20.specs.Control.{Controls, marks, foundInBody}
 use Rattle.ec20.specs.Labels.{opensOf}
 use Rattle.bound.specs.Small.{Frame, frame, State, start}
 use Rattle.bound.proofs.Rows.{Seq}
@@ -61,7 +61,7 @@ module _ (code : Controls) (count : ℕ) where
   after-opens (again {h = h} r q i o b t a) = row-opens code b ∙ o ∙ ap ((h - 1) ∷_) (sym (row-opens code t) ∙ after-opens a)
 
   -- no label is found at the end of a row
-  pub after-none : {d e c : ℕ} {loops : List Frame} (l : ℕ) → After code count d loops e c → findFrom code count (marks l) e 0 ≡ Nowhere
+  pub after-none : {d e c : ℕ} {loops : List Frame} (l : ℕ) → After code count d loops e c → foundInBody code count (marks l) 0 e ≡ Nowhere
   unfolding marks
   after-none {e = e} l (ends q h o) = at-last code count (marks l) e h q refl
   after-none {e = e} l (again r q h o b t a) = at-next code count (marks l) e (omega arith) q refl

@@ -20,8 +20,8 @@ pub record Onward (s t : Machine) : Type 0 where
 
 -- and of the loops' tables nothing changes
 pub record Ahead (w u : World) : Type 0 where
-  pub left : u .left ≡ w .left
-  pub back : u .back ≡ w .back
+  pub left : u .loops .left ≡ w .loops .left
+  pub back : u .loops .back ≡ w .loops .back
   pub st : Onward (w .st) (u .st)
 
 pub ahead : (w : World) (c : Memory) (t : Machine) → Onward (w .st) t → Ahead w (going w c t)

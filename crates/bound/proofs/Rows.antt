@@ -13,7 +13,7 @@ use Rattle.ec20.specs.declared.Walked.{Walked}
 use Rattle.ec20.specs.declared.Walked.the-variants.{Done, Bad}
 use Rattle.ec20.specs.Control.{Controls}
 use Rattle.ec20.proofs.Tests.{picked}
-use Rattle.ec20.specs.Loops.{lastAct, midAct, actOf, plus, follow, byAct, sequenceOf}
+use Rattle.ec20.specs.Walkers.{lastAct, midAct, actOf, plus, follow, byAct, sequenceOf}
 
 -- a record that is no part of a loop's frame: in record order, the next one follows
 abbrev pub Steady : Control → Type 0
@@ -46,7 +46,7 @@ pub data Complete (code : Controls) (count : ℕ) : ℕ → ℕ → ℕ → ℕ 
 module _ (code : Controls) (count : ℕ) where
   -- what is known of a record by what it asks
   Told : ℕ → ℕ → Act → Type 0
-  Told k d Go = Steady (code k) × (k + 1 < count)
+  Told k d (Go s) = Steady (code k) × (k + 1 < count) × (s ≡ 1)
   Told k d (Enter t) = (code k ≡ Opens t) × (d < 8) × (k + 1 < count)
   Told k d Leave = (code k ≡ Closes) × (0 < d) × (k + 1 < count)
   Told k d Finish = (code k ≡ Ends) × (d ≡ 0) × (k + 1 ≡ count)
@@ -63,11 +63,11 @@ module _ (code : Controls) (count : ℕ) where
 
   told-mid : (k d : ℕ) (i : Control) → code k ≡ i → k + 1 < count → Told k d (midAct i d)
   unfolding Told midAct
-  told-mid k d Plain e h = rw e (tt, h)
+  told-mid k d Plain e h = rw e (tt, h, refl)
   told-mid k d (Opens n) e h = picked (Told k d) (ltb d 8) (Enter n) Refuse (λ z. (e, ltb-true d 8 z, h)) (λ z. tt)
   told-mid k d Closes e h = picked (Told k d) (ltb 0 d) Leave Refuse (λ z. (e, ltb-true 0 d z, h)) (λ z. tt)
-  told-mid k d (Jumps l) e h = rw e (tt, h)
-  told-mid k d (Marks l) e h = rw e (tt, h)
+  told-mid k d (Jumps l) e h = rw e (tt, h, refl)
+  told-mid k d (Marks l) e h = rw e (tt, h, refl)
   told-mid k d Ends e h = tt
 
   told : (k d : ℕ) → k < count → Told k d (actOf code count k d)
@@ -115,8 +115,9 @@ module _ (code : Controls) (count : ℕ) where
   by-act : (k d m w : ℕ) (walk : ℕ → ℕ → Walked) → Walks walk → (a : Act) → Told k d a → byAct a k d walk ≡ Done m w
       → Complete code count d k m w
   unfolding byAct Told
-  by-act k d m w walk ih Go (o) e = let p = plus-done 1 (walk (k + 1) d) e in
-      let z : suc (p .0) ≡ w = omega (arith, p .2) in
+  by-act k d m w walk ih (Go s) o e =
+      let p = plus-done s (walk (k + 1) d) e in
+      let z : suc (p .0) ≡ w = omega (arith, p .2, o .2) in
       subst (Complete code count d k m) z (complete-plain (o .0) (ih (k + 1) d m (p .0) (o .1) (p .1)))
   by-act k d m w walk ih (Enter t) o e = after-loop t k d m w walk ih (o .0) (o .1) (o .2) (walk (k + 1) (d + 1)) refl e
   by-act k zero m w walk ih Leave o e = absurd (let z : 0 < 0 = o .1 in omega arith)

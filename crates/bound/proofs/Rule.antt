@@ -8,8 +8,8 @@ use Rattle.ec20.specs.declared.Control.the-variants.{Jumps, Marks, Ends}
 use Rattle.ec20.specs.declared.Found.the-variants.{At, Nowhere}
 use Rattle.ec20.specs.declared.Walked.the-variants.{Done}
 use Rattle.ec20.specs.Basics.{firstAt}
-use Rattle.ec20.specs.Control.{Controls, marks, findFrom, labelOf}
-use Rattle.ec20.specs.Loops.{walkOf}
+use Rattle.ec20.specs.Control.{Controls, marks, foundInBody, firstLabel}
+use Rattle.ec20.specs.Walkers.{walkOf}
 use Rattle.ec20.specs.Labels.{labelFault, Stands}
 use Rattle.bound.proofs.Rows.{Seq, Complete, top, walked}
 use Rattle.bound.proofs.First.{no-first, same-true}
@@ -18,7 +18,7 @@ use Rattle.bound.proofs.LabelRule.{some-records, label-rule}
 -- each CJ's label stands where it must, and is the one found from the next record on
 abbrev pub Rule : Controls → ℕ → Type 0
 Rule code count =
-    (k l : ℕ) → k < count → code k ≡ Jumps l → (t : ℕ) × Stands code count k l t × (findFrom code count (marks l) (k + 1) 0 ≡ At t)
+    (k l : ℕ) → k < count → code k ≡ Jumps l → (t : ℕ) × Stands code count k l t × (foundInBody code count (marks l) 0 (k + 1) ≡ At t)
 
 -- a program that ends at record e and costs u before it
 pub record Whole (code : Controls) (count e u : ℕ) : Type 0 where
@@ -30,7 +30,7 @@ pub record Whole (code : Controls) (count e u : ℕ) : Type 0 where
 module _ (code : Controls) (count : ℕ) where
   -- no record breaks the label rule
   abbrev pub Faultless : Type 0
-  Faultless = firstAt (λ k. labelFault code count k (code k)) count 0 ≡ Nowhere
+  Faultless = firstAt (λ k. labelFault code count k (code k)) 0 count ≡ Nowhere
 
   faultless : Faultless → (k : ℕ) (i : Control) → k < count → code k ≡ i → labelFault code count k i ≡ false
   faultless e k i h q =
@@ -45,7 +45,7 @@ module _ (code : Controls) (count : ℕ) where
       let y : p .0 ≡ s .0 = cc (p .1, s .1 .first) in
       (s .0, s .1, rw (← y) (p .2))
 
-  pub once-of : Faultless → (k l : ℕ) → k < count → code k ≡ Marks l → labelOf code count l ≡ At k
+  pub once-of : Faultless → (k l : ℕ) → k < count → code k ≡ Marks l → firstLabel code count l ≡ At k
   unfolding labelFault
   once-of e k l h q = let p = same-true _ (At k) (faultless e k (Marks l) h q) in p .1 ∙ sym (p .2)
 

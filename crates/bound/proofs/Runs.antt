@@ -11,12 +11,13 @@ use Rattle.ec20.specs.declared.Control.the-variants.{Jumps}
 use Rattle.ec20.specs.declared.Judged.the-variants.{Fine}
 use Rattle.ec20.specs.Code.{Program}
 use Rattle.ec20.specs.Control.{controlOf, controlsOf}
-use Rattle.ec20.specs.Loops.{stepsOf}
-use Rattle.ec20.specs.Check.{walked, judgeProgram}
+use Rattle.ec20.specs.Devices.{Device}
+use Rattle.ec20.specs.Check.{judgeProgram, wOf}
 use Rattle.ec20.specs.Flow.{isOn}
 use Rattle.ec20.specs.Memory.{Memory}
 use Rattle.ec20.specs.Step.{World, stepOf}
 use Rattle.ec20.specs.Scan.{Run, runOf, startWorld}
+use Rattle.ec20.proofs.Walkers.{w-by-walkers}
 use Rattle.bound.specs.Small.{State, loopsOf, control, moveOn}
 use Rattle.bound.specs.Safe.{Safe, AtEnd}
 use Rattle.bound.specs.Scans.{Quiet}
@@ -84,14 +85,14 @@ module _ (p : Program) (e : ℕ) where
     safe-here : (w : World) (m : ℕ) → OnWay w m → Safe p w
     safe-here w m o =
         let h = left-held (controlsOf p) (p .count) rule (o .left) in
-        let l : length (loopsOf (w .st .depth) (w .left) (w .back)) ≡ w .st .depth = length-loops (w .st .depth) (w .left) (w .back) in
+        let l : length (loopsOf (w .st .depth) (w .loops .left) (w .loops .back)) ≡ w .st .depth = length-loops (w .st .depth) (w .loops .left) (w .loops .back) in
         record {
           running = o .left .runs;
           inside = h .inside;
           room = omega (arith, h .room);
           passes = o .eights .0;
           places = o .eights .1;
-          loops = h .loops ∙ sym (fors-same (w .st .depth) (w .left) (w .back));
+          loops = h .loops ∙ sym (fors-same (w .st .depth) (w .loops .left) (w .loops .back));
           due = rw l at (h .due);
         }
 
@@ -124,7 +125,7 @@ module _ (p : Program) (e : ℕ) where
               record {
                 ended = ap (λ (s : State). s .mark) same ∙ f .0;
                 last = ap (λ (s : State). s .pc + 1) same ∙ f .2;
-                closed = sym (length-loops (u .st .depth) (u .left) (u .back)) ∙ ap (λ (s : State). length (s .loops)) same ∙ f .3;
+                closed = sym (length-loops (u .st .depth) (u .loops .left) (u .loops .back)) ∙ ap (λ (s : State). length (s .loops)) same ∙ f .3;
               },
               f .1,
             )
@@ -162,12 +163,12 @@ module _ (p : Program) (e : ℕ) where
             })
 
 -- of a program in which nothing of 5 to 8 is refused, from the start of a scan on
-module _ (p : Program) (fine : judgeProgram p ≡ Fine) where
-  pub from-start : (e n : ℕ) (c : Memory) → Kept p e (runOf p e n 0 (startWorld c)) (startWorld c) n 0 (stepsOf (walked p))
+module _ (v : Device) (p : Program) (some : 0 < p .count) (fine : judgeProgram p ≡ Fine) where
+  pub from-start : (e n : ℕ) (c : Memory) → Kept p e (runOf p e n 0 (startWorld v c)) (startWorld v c) n 0 (wOf p)
   unfolding loopsOf
   from-start e n c =
-      let h = judged-whole p fine in
-      kept p e (h .3 .rule) n 0 (stepsOf (walked p)) (startWorld c) (record {
+      let h = judged-whole p some fine in
+      kept p e (h .3 .rule) n 0 (wOf p) (startWorld v c) (record {
         eights = (refl, refl);
-        left = rw (h .4) (left-start (controlsOf p) (p .count) (h .3));
+        left = rw (w-by-walkers p some fine, h .4) (left-start (controlsOf p) (p .count) (h .3));
       })

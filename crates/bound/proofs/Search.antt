@@ -11,7 +11,9 @@ use Rattle.ec20.specs.declared.Control.{Control}
 use Rattle.ec20.specs.declared.Control.the-variants.{Plain, Opens, Closes, Jumps, Marks, Ends}
 use Rattle.ec20.specs.declared.Found.{Found}
 use Rattle.ec20.specs.declared.Found.the-variants.{At, Nowhere}
-use Rattle.ec20.specs.Control.{Controls, closes, marks, shiftOf, turnOf, byTurn, findOf, findFrom}
+use Rattle.ec20.specs.Control.{Controls, closes, marks, searchBody, foundInBody}
+use Rattle.ec20.specs.Walkers.{shiftOf, turnOf, byTurn}
+use Rattle.ec20.proofs.Walkers.{search-turn}
 use Rattle.bound.proofs.Rows.{Steady, Seq, empty, plain, loop, low}
 
 deep : (d : ℕ) → eqb (suc d) 0 ≡ false
@@ -20,9 +22,10 @@ deep d = ne-eqb (suc d) 0 (omega arith)
 module _ (code : Controls) (count : ℕ) (want : Control → Bool) where
   -- one record of the search
   find-step : (k d : ℕ) → k < count
-      → findFrom code count want k d ≡ byTurn (turnOf (want (code k)) (code k) d) k (λ j. findFrom code count want (k + 1) j)
-  unfolding findOf
-  find-step k d h = let e : count - k ≡ suc (count - (k + 1)) = omega arith in ap (λ (n : ℕ). findOf want code n k d) e
+      → foundInBody code count want d k ≡ byTurn (turnOf (want (code k)) (code k) d) k (λ j. foundInBody code count want j (k + 1))
+  unfolding searchBody
+  find-step k d h = let e : count - k ≡ suc (count - (k + 1)) = omega arith in
+      ap (λ (n : ℕ). searchBody code want d k n) e ∙ search-turn code want d k (count - (k + 1))
 
   steady-shift : (i : Control) (d : ℕ) → Steady i → shiftOf i d ≡ On d
   unfolding shiftOf
@@ -34,20 +37,20 @@ module _ (code : Controls) (count : ℕ) (want : Control → Bool) where
   steady-shift Ends d o = absurd o
 
   -- in a loop inside the body searched
-  for-deeper : (k d n : ℕ) → k < count → code k ≡ Opens n → findFrom code count want k (suc d) ≡ findFrom code count want (k + 1) (suc (suc d))
+  for-deeper : (k d n : ℕ) → k < count → code k ≡ Opens n → foundInBody code count want (suc d) k ≡ foundInBody code count want (suc (suc d)) (k + 1)
   unfolding turnOf shiftOf byTurn
   for-deeper k d n h q = find-step k (suc d) h ∙ rw (q, add-one, deep d)
 
-  next-deeper : (k d : ℕ) → k < count → code k ≡ Closes → findFrom code count want k (suc d) ≡ findFrom code count want (k + 1) d
+  next-deeper : (k d : ℕ) → k < count → code k ≡ Closes → foundInBody code count want (suc d) k ≡ foundInBody code count want d (k + 1)
   unfolding turnOf shiftOf byTurn
   next-deeper k d h q = let e : suc d - 1 ≡ d = omega arith in find-step k (suc d) h ∙ rw (q, e, deep d)
 
-  steady-deeper : (k d : ℕ) → k < count → Steady (code k) → findFrom code count want k (suc d) ≡ findFrom code count want (k + 1) (suc d)
+  steady-deeper : (k d : ℕ) → k < count → Steady (code k) → foundInBody code count want (suc d) k ≡ foundInBody code count want (suc d) (k + 1)
   unfolding turnOf byTurn
   steady-deeper k d h o = find-step k (suc d) h ∙ rw (steady-shift (code k) (suc d) o, deep d)
 
   -- a row inside a loop is passed over
-  pub pass : {d k e w : ℕ} (j : ℕ) → Seq code d k e w → e < count → findFrom code count want k (suc j) ≡ findFrom code count want e (suc j)
+  pub pass : {d k e w : ℕ} (j : ℕ) → Seq code d k e w → e < count → foundInBody code count want (suc j) k ≡ foundInBody code count want (suc j) e
   pass j empty h = refl
   pass j (plain {k = k} {e = e} o t) h =
       let l : k + 1 ≤ e = low t in
@@ -59,30 +62,30 @@ module _ (code : Controls) (count : ℕ) (want : Control → Bool) where
 
   -- a loop at the level searched is passed over
   pub over : (k b n : ℕ) {d v : ℕ} → code k ≡ Opens n → want (Opens n) ≡ false → code b ≡ Closes → Seq code d (k + 1) b v → b < count
-      → findFrom code count want k 0 ≡ findFrom code count want (b + 1) 0
+      → foundInBody code count want 0 k ≡ foundInBody code count want 0 (b + 1)
   unfolding turnOf shiftOf byTurn
   over k b n q f x s h =
       let g : k + 1 ≤ b = low s in
-      let u : findFrom code count want k 0 ≡ findFrom code count want (k + 1) 1 = find-step k 0 (omega arith) ∙ rw (q, f) in
+      let u : foundInBody code count want 0 k ≡ foundInBody code count want 1 (k + 1) = find-step k 0 (omega arith) ∙ rw (q, f) in
       u ∙ pass 0 s h ∙ next-deeper b 0 h x
 
   -- a record at the level searched that is not wanted
   pub unwanted : (k : ℕ) → k < count → want (code k) ≡ false → Steady (code k)
-      → findFrom code count want k 0 ≡ findFrom code count want (k + 1) 0
+      → foundInBody code count want 0 k ≡ foundInBody code count want 0 (k + 1)
   unfolding turnOf byTurn
   unwanted k h f o = find-step k 0 h ∙ rw (f, steady-shift (code k) 0 o)
 
-  pub wanted : (k : ℕ) → k < count → want (code k) ≡ true → findFrom code count want k 0 ≡ At k
+  pub wanted : (k : ℕ) → k < count → want (code k) ≡ true → foundInBody code count want 0 k ≡ At k
   unfolding turnOf byTurn
   wanted k h f = find-step k 0 h ∙ rw f
 
   -- at the end of a row nothing is found, where its last record is not wanted
-  pub at-next : (e : ℕ) → e < count → code e ≡ Closes → want Closes ≡ false → findFrom code count want e 0 ≡ Nowhere
+  pub at-next : (e : ℕ) → e < count → code e ≡ Closes → want Closes ≡ false → foundInBody code count want 0 e ≡ Nowhere
   unfolding turnOf shiftOf byTurn
   at-next e h q f = find-step e 0 h ∙ rw (q, f)
 
-  pub at-last : (e : ℕ) → e + 1 ≡ count → code e ≡ Ends → want Ends ≡ false → findFrom code count want e 0 ≡ Nowhere
-  unfolding turnOf shiftOf byTurn findOf
+  pub at-last : (e : ℕ) → e + 1 ≡ count → code e ≡ Ends → want Ends ≡ false → foundInBody code count want 0 e ≡ Nowhere
+  unfolding turnOf shiftOf byTurn searchBody
   at-last e h q f = find-step e 0 (omega arith) ∙ rw (q, f) (let z : count - (e + 1) ≡ 0 = omega arith in rw z)
 
 steady-next : (i : Control) → Steady i → closes i ≡ false
@@ -110,7 +113,7 @@ pub record Within (code : Controls) (d k e w t : ℕ) : Type 0 where
 
 module _ (code : Controls) (count : ℕ) where
   -- a FOR finds its NEXT
-  pub to-next : {d k e w : ℕ} → Seq code d k e w → code e ≡ Closes → e < count → findFrom code count closes k 0 ≡ At e
+  pub to-next : {d k e w : ℕ} → Seq code d k e w → code e ≡ Closes → e < count → foundInBody code count closes 0 k ≡ At e
   unfolding closes
   to-next {e = e} empty q h = wanted code count closes e h (rw q)
   to-next (plain {k = k} {e = e} o t) q h =
@@ -128,8 +131,8 @@ module _ (code : Controls) (count : ℕ) where
         let b : k′ ≤ t = r .past in
         record { cost = r .cost; rest = r .rest; less = omega arith; past = omega arith; until = r .until }
 
-    pub in-row : {d k e w : ℕ} (t : ℕ) → Seq code d k e w → findFrom code count (marks l) e 0 ≡ Nowhere → e < count
-        → findFrom code count (marks l) k 0 ≡ At t → Within code d k e w t
+    pub in-row : {d k e w : ℕ} (t : ℕ) → Seq code d k e w → foundInBody code count (marks l) 0 e ≡ Nowhere → e < count
+        → foundInBody code count (marks l) 0 k ≡ At t → Within code d k e w t
     unfolding marks
     in-row t empty z h f = absurd (none-at (sym z ∙ f))
     in-row {d} {k} {e} t (plain {w = w} o s) z h f = by-want (marks l (code k)) refl (λ g. in-row t s z h g)
@@ -137,7 +140,7 @@ module _ (code : Controls) (count : ℕ) where
         inside : k < count
         inside = let a : k + 1 ≤ e = low s in omega arith
 
-        by-want : (b : Bool) → marks l (code k) ≡ b → (findFrom code count (marks l) (k + 1) 0 ≡ At t → Within code d (k + 1) e w t)
+        by-want : (b : Bool) → marks l (code k) ≡ b → (foundInBody code count (marks l) 0 (k + 1) ≡ At t → Within code d (k + 1) e w t)
             → Within code d k e (suc w) t
         by-want true g rec =
             let a : k ≡ t = same-at (sym (wanted code count (marks l) k inside g) ∙ f) in

@@ -21,7 +21,7 @@ use Rattle.ec20.specs.Scan.{Run, runOf, startWorld, scan, answerOf, runScan, fi
 use Rattle.bound.specs.Small.{State, control, moveOn}
 use Rattle.bound.specs.Safe.{Safe, AtEnd}
 use Rattle.bound.specs.Scans.{Quiet, EndsIn}
-use Rattle.ec20.proofs.NoFault.{accepted-program, accepted-count, accepted-steps}
+use Rattle.ec20.proofs.NoFault.{accepted-program, accepted-count, accepted-some, accepted-steps}
 use Rattle.bound.proofs.Engine.{step-same}
 use Rattle.bound.proofs.Runs.{run-more, Kept, from-start}
 
@@ -34,10 +34,10 @@ answer-ended k s z = rw z
 module _ (v : Device) (f : List ℕ) (n w : ℕ) (ok : checkFor v f ≡ Accepted n w) (e : ℕ) (c : Memory) where
   -- what b steps come to
   abbrev pub run : ℕ → Run
-  run b = runOf (programOf f) e b 0 (startWorld c)
+  run b = runOf (programOf f) e b 0 (startWorld v c)
 
-  all : (b : ℕ) → Kept (programOf f) e (run b) (startWorld c) b 0 w
-  all b = rw (← accepted-steps v f n w ok) (from-start (programOf f) (accepted-program v f n w ok) e b c)
+  all : (b : ℕ) → Kept (programOf f) e (run b) (startWorld v c) b 0 w
+  all b = rw (← accepted-steps v f n w ok) (from-start v (programOf f) (accepted-some v f n w ok) (accepted-program v f n w ok) e b c)
 
   -- "Each record executed is one step": whatever the budget, there are at most W
   pub at-most-w : (b : ℕ) → run b .steps ≤ w
@@ -58,7 +58,7 @@ module _ (v : Device) (f : List ℕ) (n w : ℕ) (ok : checkFor v f ≡ Accepted
   as-small b z =
       elim (each-safe b) [
         | inl x ↦ let y = x .ended in absurd (omega arith)
-        | inr x ↦ ap control (run-more (programOf f) e b 0 (startWorld c) z) ∙ step-same (programOf f) e (run b .after) x
+        | inr x ↦ ap control (run-more (programOf f) e b 0 (startWorld v c) z) ∙ step-same (programOf f) e (run b .after) x
       ]
 
   pub unbroken : (b : ℕ) → run b .after .st .ended ≡ 0
@@ -68,7 +68,7 @@ module _ (v : Device) (f : List ℕ) (n w : ℕ) (ok : checkFor v f ≡ Accepted
       elim (each-safe (suc b)) [ inl a ↦ let q = a .ended in omega arith | inr a ↦ let q = a .running in omega arith ]
 
   -- where no jump is taken there are just W
-  pub exactly-w : (b : ℕ) → w ≤ b → Quiet (programOf f) e (startWorld c) → run b .steps ≡ w
+  pub exactly-w : (b : ℕ) → w ≤ b → Quiet (programOf f) e (startWorld v c) → run b .steps ≡ w
   exactly-w b h q = let x = all b .exact h q in omega arith
 
   -- the record due is one of the program's, at END too
@@ -96,7 +96,7 @@ module _ (v : Device) (f : List ℕ) (n w : ℕ) (ok : checkFor v f ≡ Accepted
   unfolding scanFor
   never-watchdog b h r y = go (fitting v e c) refl (rw ok at y)
     where
-      go : (t : Bool) → fitting v e c ≡ t → pick t (runScan (programOf f) e b c) (scan (Refused 9 0) c) .answer ≡ Watchdog r → ⊥
+      go : (t : Bool) → fitting v e c ≡ t → pick t (runScan v (programOf f) e b c) (scan (Refused 9 0) c) .answer ≡ Watchdog r → ⊥
       go true x z = let a = scan-ends b h x in let q : _≡_ {A = ℕ} 0 1 = cc (a .answer, y) in omega arith
       go false x z = let q : _≡_ {A = ℕ} 0 1 = cc in omega arith
 

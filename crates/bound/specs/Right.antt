@@ -4,8 +4,8 @@ use mathlib.Core.Path.{_≡_}
 use Rattle.ec20.specs.declared.Control.the-variants.{Jumps, Marks}
 use Rattle.ec20.specs.declared.Found.the-variants.{At}
 use Rattle.ec20.specs.declared.Walked.the-variants.{Done}
-use Rattle.ec20.specs.Control.{Controls, labelOf}
-use Rattle.ec20.specs.Loops.{walkOf}
+use Rattle.ec20.specs.Control.{Controls, firstLabel}
+use Rattle.ec20.specs.Walkers.{walkOf}
 use Rattle.ec20.specs.Labels.{Stands}
 
 -- a program of `count` records and W steps
@@ -15,6 +15,6 @@ pub record Right (code : Controls) (count w : ℕ) : Type 0 where
   -- each CJ's label "stands later and directly in the same loop body"
   pub jumps : (k l : ℕ) → k < count → code k ≡ Jumps l → (t : ℕ) × Stands code count k l t
   -- no label is set twice
-  pub once : (k l : ℕ) → k < count → code k ≡ Marks l → labelOf code count l ≡ At k
+  pub once : (k l : ℕ) → k < count → code k ≡ Marks l → firstLabel code count l ≡ At k
   -- W is 10,000,000 at most
   pub few : w ≤ 10000000

@@ -7,16 +7,17 @@ use lib.ListN.{length, getD}
 use Rattle.ec20.specs.declared.Control.{Control}
 use Rattle.ec20.specs.declared.Control.the-variants.{Plain, Opens, Closes, Jumps, Marks, Ends}
 use Rattle.ec20.specs.declared.Found.the-variants.{At}
+use Rattle.ec20.specs.Devices.{deepest}
 use Rattle.ec20.specs.Code.{Program}
-use Rattle.ec20.specs.Control.{Controls, controlOf, controlsOf, marks, nextOf}
+use Rattle.ec20.specs.Control.{Controls, controlOf, controlsOf, marks, nextOfFor}
 use Rattle.ec20.specs.Labels.{opensOf, Stands}
 use Rattle.ec20.specs.Step.{World}
 
 -- a FOR at record k, with d loops open: there is room for one more, and its NEXT is found, later and not the last record
 pub record Enters (code : Controls) (count k d : ℕ) : Type 0 where
-  pub room : d < 8
+  pub room : d < deepest
   pub next : ℕ
-  pub found : nextOf code count k ≡ At next
+  pub found : nextOfFor code count k ≡ At next
   pub closing : code next ≡ Closes
   pub later : k < next
   pub inside : next + 1 < count
@@ -47,10 +48,10 @@ forsOf (suc d) back = (getD back d 0 - 1) ∷ forsOf d back
 pub record Safe (p : Program) (w : World) : Type 0 where
   pub running : w .st .ended ≡ 0
   pub inside : w .st .pc < p .count
-  pub room : w .st .depth ≤ 8
-  pub passes : length (w .left) ≡ 8
-  pub places : length (w .back) ≡ 8
-  pub loops : opensOf (controlsOf p) (w .st .pc) ≡ forsOf (w .st .depth) (w .back)
+  pub room : w .st .depth ≤ deepest
+  pub passes : length (w .loops .left) ≡ deepest
+  pub places : length (w .loops .back) ≡ deepest
+  pub loops : opensOf (controlsOf p) (w .st .pc) ≡ forsOf (w .st .depth) (w .loops .back)
   pub due : Due (controlsOf p) (p .count) (w .st .pc) (w .st .depth) (controlOf (p .code (w .st .pc)))
 
 -- END was executed: it is the last record, and no loop is open

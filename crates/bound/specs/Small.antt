@@ -10,7 +10,8 @@ use Rattle.ec20.specs.declared.Control.the-variants.{Plain, Opens, Closes, Jump
 use Rattle.ec20.specs.declared.Found.{Found}
 use Rattle.ec20.specs.declared.Found.the-variants.{At, Nowhere}
 use Rattle.ec20.specs.Basics.{pick}
-use Rattle.ec20.specs.Control.{Controls, nextOf, labelOf}
+use Rattle.ec20.specs.Devices.{deepest}
+use Rattle.ec20.specs.Control.{Controls, nextOfFor, firstLabel}
 use Rattle.ec20.specs.Step.{World}
 
 -- an open loop: the passes left, the one under way counted, and the record after its FOR
@@ -53,8 +54,8 @@ pastFound Nowhere s = broken s
 -- "FOR 0 goes to the record after its NEXT"; else one more loop is open, of 8 at most
 unfoldable pub openOf : Controls → ℕ → ℕ → State → State
 openOf code count n s =
-    pick (eqb n 0) (pastFound (nextOf code count (s .pc)) s)
-    (pick (ltb (length (s .loops)) 8) (state (s .pc + 1) (frame n (s .pc + 1) ∷ s .loops) (s .mark))
+    pick (eqb n 0) (pastFound (nextOfFor code count (s .pc)) s)
+    (pick (ltb (length (s .loops)) deepest) (state (s .pc + 1) (frame n (s .pc + 1) ∷ s .loops) (s .mark))
     (broken s))
 
 -- NEXT: another pass of the innermost loop, from the record after its FOR, or the record after NEXT with one loop less
@@ -69,7 +70,7 @@ unfoldable pub doneOf : Controls → ℕ → Bool → State → Control → Stat
 doneOf code count flow s Plain = goto s (s .pc + 1)
 doneOf code count flow s (Opens n) = openOf code count n s
 doneOf code count flow s Closes = passOf (s .loops) s
-doneOf code count flow s (Jumps l) = pick flow (toFound (labelOf code count l) s) (goto s (s .pc + 1))
+doneOf code count flow s (Jumps l) = pick flow (toFound (firstLabel code count l) s) (goto s (s .pc + 1))
 doneOf code count flow s (Marks l) = goto s (s .pc + 1)
 doneOf code count flow s Ends = state (s .pc) (s .loops) 1
 
@@ -83,4 +84,4 @@ loopsOf zero left back = []
 loopsOf (suc d) left back = frame (getD left d 0) (getD back d 0) ∷ loopsOf d left back
 
 abbrev pub control : World → State
-control w = state (w .st .pc) (loopsOf (w .st .depth) (w .left) (w .back)) (w .st .ended)
+control w = state (w .st .pc) (loopsOf (w .st .depth) (w .loops .left) (w .loops .back)) (w .st .ended)

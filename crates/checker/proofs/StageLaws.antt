@@ -8,13 +8,15 @@ use lib.Dec.{leb}
 use borrow.Author.Tests.{le-leb, lt-leb, leb-true}
 use Rattle.checker.proofs.Accepted.{apart, whole-pick}
 use Rattle.ec20.specs.Basics.{pick, then}
-use Rattle.ec20.specs.Check.{walked, judgeProgram, judgeFile, verdictOf, checkFor, checkOf}
+use Rattle.ec20.specs.Check.{judgeProgram, judgeFile, verdictOf, checkFor, checkOf, wOf}
 use Rattle.ec20.specs.Code.{Program, programIn, programOf}
-use Rattle.ec20.specs.Control.{controlsOf}
+use Rattle.ec20.specs.Control.{Controls, controlsOf}
 use Rattle.ec20.specs.Devices.{ec20}
 use Rattle.ec20.specs.File.{Records, recordsFrom, recordsOf, framed, frameOf, firstOf, countOf}
 use Rattle.ec20.specs.Labels.{firstUnlabelled}
-use Rattle.ec20.specs.Loops.{unsound, stepsOf, tooLong}
+use Rattle.ec20.specs.Loops.{firstUnsound, tooLong}
+use Rattle.ec20.specs.Walkers.{walked, unsound, stepsWalked}
+use Rattle.ec20.proofs.Walkers.{walked-unsound, walked-steps}
 use Rattle.ec20.specs.Operands.{firstBad}
 use Rattle.ec20.specs.Rung.{firstBroken}
 use Rattle.ec20.specs.declared.Frame.the-variants.{Whole, Broken}
@@ -57,11 +59,12 @@ module _ (rs : Records) where
   jumps-many w e f h = goes (rs .count) w _ (tooLong w) e f (rw (lt-leb _ _ h) refl)
 
   -- 6, then the rest: the walker caps W above its limit, which changes no answer
-  pub loops-bad : {r : Walked} {k : ℕ} → r ≡ capped (walked (programIn rs)) → r ≡ Bad k → Refused 6 k ≡ fromLoops rs
+  pub loops-bad : 0 < rs .count → {r : Walked} {k : ℕ} → r ≡ capped (walked (programIn rs)) → r ≡ Bad k → Refused 6 k ≡ fromLoops rs
   unfolding fromLoops
-  loops-bad {k = k} e f =
-      let z : Fault 6 k ≡ unsound (walked (programIn rs)) = ap unsound (sym f ∙ e) ∙ unsound-capped (walked (programIn rs)) in
-      ends (rs .count) (stepsIn rs) _ _ z refl
+  loops-bad some {k = k} e f =
+      let x : Walked = walked (programIn rs) in
+      let z : Fault 6 k ≡ unsound x = ap unsound (sym f ∙ e) ∙ unsound-capped x in
+      ends (rs .count) (stepsIn rs) _ _ (z ∙ walked-unsound (controlsOf (programIn rs)) (rs .count) some) refl
 
   later : (n w w′ : ℕ) (l : Judged) → tooLong w ≡ tooLong w′ → (w′ ≤ 10000000 → w ≡ w′) → stage n w (then l (tooLong w)) ≡ stage n w′ (then l (tooLong w′))
   later n w w′ (Fault m k) same few = refl
@@ -71,16 +74,29 @@ module _ (rs : Records) where
       go true z = ap (Accepted n) (few (leb-true _ _ z))
       go false z = refl
 
-  from-walk : (x : Walked) {m w : ℕ} → Done m w ≡ capped x → stage (rs .count) w (fromJumps rs w) ≡ stage (rs .count) (stepsOf x) (then (unsound x) (fromJumps rs (stepsOf x)))
+  from-walk : (x : Walked) {m w : ℕ} → Done m w ≡ capped x → stage (rs .count) w (fromJumps rs w) ≡ stage (rs .count) (stepsWalked x) (then (unsound x) (fromJumps rs (stepsWalked x)))
   unfolding capped fromJumps
   from-walk (Bad k) e = apart-walked (sym e)
   from-walk (Done m w) {w = u} e =
-      let z : u ≡ stepsOf (capped (Done m w)) = ap stepsOf e in
+      let z : u ≡ stepsWalked (capped (Done m w)) = ap stepsWalked e in
       later (rs .count) u w (firstUnlabelled (controlsOf (programIn rs)) (rs .count)) (ap tooLong z ∙ too-long-capped (Done m w)) (λ h. z ∙ steps-capped (Done m w) h)
 
-  pub loops-done : {r : Walked} {m w : ℕ} {v : Verdict} → r ≡ capped (walked (programIn rs)) → r ≡ Done m w → v ≡ stage (rs .count) w (fromJumps rs w) → v ≡ fromLoops rs
+  -- the walkers find 6 and W as the definitions say them
+  by-walkers : 0 < rs .count → (x : Walked) → x ≡ walked (programIn rs) → stage (rs .count) (stepsWalked x) (then (unsound x) (fromJumps rs (stepsWalked x))) ≡ fromLoops rs
   unfolding fromLoops
-  loops-done e f g = g ∙ from-walk (walked (programIn rs)) (sym f ∙ e)
+  by-walkers some x e = go (firstUnsound code (rs .count)) refl
+    where
+      code : Controls
+      code = controlsOf (programIn rs)
+
+      go : (j : Judged) → firstUnsound code (rs .count) ≡ j
+          → stage (rs .count) (stepsWalked x) (then (unsound x) (fromJumps rs (stepsWalked x))) ≡ stage (rs .count) (stepsIn rs) (then (firstUnsound code (rs .count)) (fromJumps rs (stepsIn rs)))
+      go Fine z = rw (e, walked-unsound code (rs .count) some, z, walked-steps code (rs .count) some z)
+      go (Fault m k) z = rw (e, walked-unsound code (rs .count) some, z)
+
+  pub loops-done : 0 < rs .count → {r : Walked} {m w : ℕ} {v : Verdict} → r ≡ capped (walked (programIn rs)) → r ≡ Done m w → v ≡ stage (rs .count) w (fromJumps rs w)
+      → v ≡ fromLoops rs
+  loops-done some e f g = g ∙ from-walk (walked (programIn rs)) (sym f ∙ e) ∙ by-walkers some (walked (programIn rs)) refl
 
   -- 5, then the rest
   pub rungs-fault : {r : Judged} {m k : ℕ} → r ≡ firstBroken (programIn rs) → r ≡ Fault m k → Refused m k ≡ fromRungs rs
@@ -101,7 +117,7 @@ module _ (rs : Records) where
   records-fine e f g = goes (rs .count) (stepsIn rs) _ _ e f g
 
 -- the verdict of a program is its stage
-verdict-stage : (p : Program) (j : Judged) → verdictOf p j ≡ stage (p .count) (stepsOf (walked p)) j
+verdict-stage : (p : Program) (j : Judged) → verdictOf p j ≡ stage (p .count) (wOf p) j
 verdict-stage p Fine = refl
 verdict-stage p (Fault m k) = refl
 

@@ -1,13 +1,13 @@
 -- The check in stages, the last first: what each of the checker's functions answers. `stage` turns a judgement into the verdict.
 use Prim.Native.Nat.{ℕ}
 use Rattle.ec20.specs.Basics.{then}
-use Rattle.ec20.specs.Check.{walked, judgeProgram}
+use Rattle.ec20.specs.Check.{judgeProgram, wOf}
 use Rattle.ec20.specs.Code.{programIn}
 use Rattle.ec20.specs.Control.{controlsOf}
 use Rattle.ec20.specs.Devices.{ec20}
 use Rattle.ec20.specs.File.{Records}
 use Rattle.ec20.specs.Labels.{firstUnlabelled}
-use Rattle.ec20.specs.Loops.{unsound, stepsOf, tooLong}
+use Rattle.ec20.specs.Loops.{firstUnsound, tooLong}
 use Rattle.ec20.specs.Operands.{firstBad}
 use Rattle.ec20.specs.Rung.{firstBroken}
 use Rattle.ec20.specs.declared.Judged.{Judged}
@@ -22,7 +22,7 @@ stage n w (Fault m k) = Refused m k
 
 -- W of the records' program
 abbrev pub stepsIn : Records → ℕ
-stepsIn rs = stepsOf (walked (programIn rs))
+stepsIn rs = wOf (programIn rs)
 
 -- 7, then 8 by a count of steps
 unfoldable pub fromJumps : Records → ℕ → Judged
@@ -30,7 +30,7 @@ fromJumps rs w = then (firstUnlabelled (controlsOf (programIn rs)) (rs .count)) 
 
 -- 6, then 7 and 8
 unfoldable pub fromLoops : Records → Verdict
-fromLoops rs = stage (rs .count) (stepsIn rs) (then (unsound (walked (programIn rs))) (fromJumps rs (stepsIn rs)))
+fromLoops rs = stage (rs .count) (stepsIn rs) (then (firstUnsound (controlsOf (programIn rs)) (rs .count)) (fromJumps rs (stepsIn rs)))
 
 -- 5, then 6, 7 and 8
 unfoldable pub fromRungs : Records → Verdict

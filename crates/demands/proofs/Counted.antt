@@ -8,15 +8,16 @@ use native.Mathlib.Decide.{decLt, ℕ-discrete}
 use borrow.Author.Tests.{eq-eqb, ne-eqb}
 use Rattle.ec20.specs.declared.Machine.{Machine}
 use Rattle.ec20.specs.Code.{Program}
+use Rattle.ec20.specs.Devices.{Device}
 use Rattle.ec20.specs.Memory.{Memory}
 use Rattle.ec20.specs.Step.{World, stepOf}
 use Rattle.ec20.specs.declared.Scanned.{Scanned}
 use Rattle.ec20.specs.Scan.{Run, Scan, scan, runOf, startWorld, answerOf, runScan}
 use Rattle.demands.specs.Steps.{afterSteps, Answer, ended, watchdog, Counted}
 
-module _ (p : Program) (e : ℕ) (c : Memory) where
+module _ (v : Device) (p : Program) (e : ℕ) (c : Memory) where
   abbrev after : ℕ → World
-  after k = afterSteps p e c k
+  after k = afterSteps v p e c k
 
   next : (k : ℕ) → after (k + 1) ≡ stepOf p e (after k)
   unfolding afterSteps
@@ -57,14 +58,14 @@ module _ (p : Program) (e : ℕ) (c : Memory) where
       ]
 
   -- of the start of a scan
-  made-all : (b : ℕ) → Made b 0 (runOf p e b 0 (startWorld c))
+  made-all : (b : ℕ) → Made b 0 (runOf p e b 0 (startWorld v c))
   unfolding afterSteps
   made-all b = made b 0
 
   -- a run of j steps, where the scan still goes on, comes to the world after j steps
-  pub same-world : (j : ℕ) → ((i : ℕ) → i < j → after i .st .ended ≡ 0) → after j .st .ended ≡ 0 → runOf p e j 0 (startWorld c) .after ≡ after j
+  pub same-world : (j : ℕ) → ((i : ℕ) → i < j → after i .st .ended ≡ 0) → after j .st .ended ≡ 0 → runOf p e j 0 (startWorld v c) .after ≡ after j
   same-world j h z =
-      let r = runOf p e j 0 (startWorld c) in
+      let r = runOf p e j 0 (startWorld v c) in
       let m = made-all j in
       let all : r .steps ≡ j =
       elim (ℕ-discrete (r .steps) j) [ yes q ↦ q | no q ↦ let s = m .stopped (h (r .steps) (omega (arith, m .most, q))) in omega (arith, s) ] in
@@ -76,11 +77,11 @@ module _ (p : Program) (e : ℕ) (c : Memory) where
   told b k s (inr z) h = rw (eq-eqb (s .ended) 0 z) (watchdog z (h z))
 
   -- a scan whose run stands at END or not: counted
-  pub counted : (b : ℕ) → (runOf p e b 0 (startWorld c) .after .st .ended ≡ 1) ⊎ (runOf p e b 0 (startWorld c) .after .st .ended ≡ 0)
-      → Counted p e b c (runScan p e b c)
+  pub counted : (b : ℕ) → (runOf p e b 0 (startWorld v c) .after .st .ended ≡ 1) ⊎ (runOf p e b 0 (startWorld v c) .after .st .ended ≡ 0)
+      → Counted v p e b c (runScan v p e b c)
   unfolding runScan
   counted b h =
-      let r = runOf p e b 0 (startWorld c) in
+      let r = runOf p e b 0 (startWorld v c) in
       let m = made-all b in
       record {
         steps = r .steps;
@@ -100,10 +101,10 @@ module _ (p : Program) (e : ℕ) (c : Memory) where
   used (ended z) h = absurd (omega (arith, z, h))
   used (watchdog z q) h = q
 
-  not-fewer : {b : ℕ} {s t : Scan} (x : Counted p e b c s) (y : Counted p e b c t) → x .steps < y .steps → ⊥
+  not-fewer : {b : ℕ} {s t : Scan} (x : Counted v p e b c s) (y : Counted v p e b c t) → x .steps < y .steps → ⊥
   not-fewer {b} x y h = let q : x .steps ≡ b = used (x .answer) (y .before (x .steps) h) in omega (arith, y .in-budget, q, h)
 
-  same-steps : {b : ℕ} {s t : Scan} (x : Counted p e b c s) (y : Counted p e b c t) → x .steps ≡ y .steps
+  same-steps : {b : ℕ} {s t : Scan} (x : Counted v p e b c s) (y : Counted v p e b c t) → x .steps ≡ y .steps
   same-steps x y =
       elim (decLt (x .steps) (y .steps)) [
         | yes h ↦ absurd (not-fewer x y h)
@@ -116,7 +117,7 @@ module _ (p : Program) (e : ℕ) (c : Memory) where
   same-answer (watchdog q r) (ended z) = absurd (omega (arith, z, q))
   same-answer (watchdog z r) (watchdog q i) = refl
 
-  pub one-scan : {b : ℕ} {s t : Scan} → Counted p e b c s → Counted p e b c t → s ≡ t
+  pub one-scan : {b : ℕ} {s t : Scan} → Counted v p e b c s → Counted v p e b c t → s ≡ t
   one-scan {b} {s} {t} x y =
       let q : y .steps ≡ x .steps = same-steps y x in
       let a = subst (λ (k : ℕ). Answer b k (after k .st) (t .answer)) q (y .answer) in

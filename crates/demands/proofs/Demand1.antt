@@ -10,12 +10,12 @@ use Rattle.ec20.specs.declared.Moved.the-variants.{To, Refused as NotMoved}
 use Rattle.ec20.specs.declared.Scanned.the-variants.{Refused as NotScanned}
 use Rattle.ec20.specs.declared.Verdict.{Verdict}
 use Rattle.ec20.specs.declared.Verdict.the-variants.{Accepted}
-use Rattle.ec20.specs.Check.{checkOf}
-use Rattle.ec20.specs.Devices.{ec20}
-use Rattle.ec20.specs.Exchange.{exchangeOf}
+use Rattle.ec20.specs.Check.{checkFor, checkOf}
+use Rattle.ec20.specs.Devices.{Device, ec20}
+use Rattle.ec20.specs.Exchange.{exchangeFor, exchangeOf}
 use Rattle.ec20.specs.File.{recordsOf}
-use Rattle.ec20.specs.Move.{block, pool, moveOf}
-use Rattle.ec20.specs.Scan.{scanOf}
+use Rattle.ec20.specs.Move.{block, pool, moveFor, moveOf}
+use Rattle.ec20.specs.Scan.{scanFor, scanOf}
 use Rattle.ec20.specs.UseMap.{mapIf, mapFor, useMapOf}
 use Rattle.modbus.specs.Answer.{answerOf}
 use Rattle.agreed.proofs.Answers.{answers}
@@ -33,30 +33,30 @@ use Rattle.demands.proofs.RequestAnswers.{answer-numbers}
 one : {A : Type 0} (x : A) → OneAnswer x
 one x = record { some = (x, refl); only = λ r s p q. one-answer p q }
 
-check-numbers : (f : List ℕ) → CheckNumbers f
-unfolding checkOf
-check-numbers f = record {
-  one = refused-1 ec20 f;
-  two = refused-2 ec20 f;
-  three = refused-3 ec20 f;
-  four = refused-4 ec20 f;
-  five = refused-5 ec20 f;
-  six = refused-6 ec20 f;
-  seven = refused-7 ec20 f;
-  eight = refused-8 ec20 f;
-  no-other = one-to-eight ec20 f;
-  accepted = not-refused ec20 f;
+check-numbers : (v : Device) (f : List ℕ) → CheckNumbers v f
+check-numbers v f = record {
+  one = refused-1 v f;
+  two = refused-2 v f;
+  three = refused-3 v f;
+  four = refused-4 v f;
+  five = refused-5 v f;
+  six = refused-6 v f;
+  seven = refused-7 v f;
+  eight = refused-8 v f;
+  no-other = one-to-eight v f;
+  accepted = not-refused v f;
 }
 
-map-numbers : (f : List ℕ) → MapNumbers f
-unfolding useMapOf mapFor checkOf
-map-numbers f = record {
-  refused = λ m k h. ap (λ (x : Verdict). mapIf ec20 x (recordsOf f)) h;
+map-numbers : (v : Device) (f : List ℕ) → MapNumbers v f
+unfolding mapFor
+map-numbers v f = record {
+  refused = λ m k h. ap (λ (x : Verdict). mapIf v x (recordsOf f)) h;
   accepted = λ ok.
-      (ap (λ (x : Verdict). mapIf ec20 x (recordsOf f) .number) (ok .2), ap (λ (x : Verdict). mapIf ec20 x (recordsOf f) .at) (ok .2));
+      (ap (λ (x : Verdict). mapIf v x (recordsOf f) .number) (ok .2), ap (λ (x : Verdict). mapIf v x (recordsOf f) .at) (ok .2));
 }
 
 pub demand-1 : Demand1
+unfolding scanOf
 demand-1 = record {
   check = λ f. one (checkOf f);
   scan = λ f e b c. one (scanOf f e b c);
@@ -68,12 +68,12 @@ demand-1 = record {
   clashes = λ v b. one (reportOf v b);
   longer = λ x y. one (longerOf x y);
   units = λ s. one (unitsOf s);
-  ends = scan-ends;
-  check-numbers = check-numbers;
-  scan-numbers = scan-numbers;
-  map-numbers = map-numbers;
-  move-numbers = move-numbers;
-  exchange-numbers = exchange-numbers;
+  ends = scan-ends ec20;
+  check-numbers = check-numbers ec20;
+  scan-numbers = scan-numbers ec20;
+  map-numbers = map-numbers ec20;
+  move-numbers = move-numbers ec20;
+  exchange-numbers = exchange-numbers ec20;
   answer-numbers = answer-numbers;
   clashes-numbers = answers;
 }
@@ -84,42 +84,42 @@ demand-1 = record {
 abbrev sample : List ℕ
 sample = alone (r3 52 (D 100) (D 102) (D 106))
 
-accepted : checkOf sample ≡ Accepted 3 3
+accepted : checkFor ec20 sample ≡ Accepted 3 3
 unfolding computing
 accepted = refl
 
 -- 9: elapsed 32768
-nine : scanOf sample 32768 100 blank .answer ≡ NotScanned 9 0
+nine : scanFor ec20 sample 32768 100 blank .answer ≡ NotScanned 9 0
 unfolding computing
 nine = refl
 
-pub late : Line9 32768 blank
+pub late : Line9 ec20 32768 blank
 late = demand-1 .scan-numbers sample 32768 100 blank .nine 0 .0 nine .2
 
 -- 10, 11, 12: an empty block, a pool from 5 to 4, a block into WORK
-ten : moveOf sample (block 0 0) (pool 0 100) .answer ≡ NotMoved 10 0
+ten : moveFor ec20 sample (block 0 0) (pool 0 100) .answer ≡ NotMoved 10 0
 unfolding computing
 ten = refl
 
-pub empty : Line10 (block 0 0)
+pub empty : Line10 ec20 (block 0 0)
 empty = demand-1 .move-numbers sample (block 0 0) (pool 0 100) .ten 0 .0 ten .2
 
-eleven : moveOf sample (block 100 10) (pool 5 4) .answer ≡ NotMoved 11 0
+eleven : moveFor ec20 sample (block 100 10) (pool 5 4) .answer ≡ NotMoved 11 0
 unfolding computing
 eleven = refl
 
-pub turned : Line11 (pool 5 4)
+pub turned : Line11 ec20 (pool 5 4)
 turned = demand-1 .move-numbers sample (block 100 10) (pool 5 4) .eleven 0 .0 eleven .3
 
-twelve : moveOf sample (block 7895 10) (pool 0 100) .answer ≡ NotMoved 12 0
+twelve : moveFor ec20 sample (block 7895 10) (pool 0 100) .answer ≡ NotMoved 12 0
 unfolding computing
 twelve = refl
 
-pub into-work : Line12 (block 7895 10)
+pub into-work : Line12 ec20 (block 7895 10)
 into-work = demand-1 .move-numbers sample (block 7895 10) (pool 0 100) .twelve 0 .0 twelve .4
 
 -- 13: the four words of DDIV at D106 are partly in D100 to D107
-thirteen : moveOf sample (block 100 8) (pool 0 100) .answer ≡ NotMoved 13 1
+thirteen : moveFor ec20 sample (block 100 8) (pool 0 100) .answer ≡ NotMoved 13 1
 unfolding computing
 thirteen = refl
 
@@ -127,28 +127,28 @@ pub split : First13 sample (block 100 8) 1
 split = demand-1 .move-numbers sample (block 100 8) (pool 0 100) .thirteen 1 .0 thirteen .4
 
 -- 14: a pool of nine words for a block of ten; with one more it is taken, and the file is not turned away
-fourteen : moveOf sample (block 100 10) (pool 195 204) .answer ≡ NotMoved 14 0
+fourteen : moveFor ec20 sample (block 100 10) (pool 195 204) .answer ≡ NotMoved 14 0
 unfolding computing
 fourteen = refl
 
-pub no-place : Line14 sample (block 100 10) (pool 195 204)
+pub no-place : Line14 ec20 sample (block 100 10) (pool 195 204)
 no-place = demand-1 .move-numbers sample (block 100 10) (pool 195 204) .fourteen 0 .0 fourteen .2
 
-goes : moveOf sample (block 100 10) (pool 195 205) .answer ≡ To 195
+goes : moveFor ec20 sample (block 100 10) (pool 195 205) .answer ≡ To 195
 unfolding computing
 goes = refl
 
-pub lowest : Lowest sample (block 100 10) (pool 195 205) 195
+pub lowest : Lowest ec20 sample (block 100 10) (pool 195 205) 195
 lowest = demand-1 .move-numbers sample (block 100 10) (pool 195 205) .place 195 .0 goes .1
 
 -- the exchange: a table of no words, and a place that meets the block
-no-table : exchangeOf [] (block 100 10) 195 .answer ≡ NotExchanged 9 0
+no-table : exchangeFor ec20 [] (block 100 10) 195 .answer ≡ NotExchanged 9 0
 unfolding computing
 no-table = refl
 
-over : exchangeOf (blank .d) (block 100 10) 105 .answer ≡ NotExchanged 14 0
+over : exchangeFor ec20 (blank .d) (block 100 10) 105 .answer ≡ NotExchanged 14 0
 unfolding computing
 over = refl
 
-pub meets-block : Line14D (block 100 10) 105
+pub meets-block : Line14D ec20 (block 100 10) 105
 meets-block = demand-1 .exchange-numbers (blank .d) (block 100 10) 105 .fourteen 0 .0 over .4

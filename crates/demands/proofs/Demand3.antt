@@ -1,5 +1,5 @@
 -- DEMAND 3 IS MET: demand-3. Its words and its statement are in specs/Demand3.antt.
-use Prim.Native.Nat.{ℕ, _+_, _<_}
+use Prim.Native.Nat.{ℕ, _+_, _≤_, _<_, _^_}
 use mathlib.Core.Bool.{true}
 use mathlib.Core.List.{List, [], _∷_, map}
 use mathlib.Core.Path.{_≡_, refl, sym, ap, subst, _∙_}
@@ -15,11 +15,11 @@ use Rattle.ec20.proofs.Files.{K, SM, D, r0, r1, r2, r3, file, blank}
 use Rattle.ec20.proofs.MovedLaws.{moved-length, moved-at, comment-kept, trailer-kept}
 use Rattle.ec20.proofs.Tests.{both}
 use Rattle.ec20.specs.declared.Moved.the-variants.{To}
-use Rattle.ec20.specs.Devices.{within}
-use Rattle.ec20.specs.Exchange.{swapped, exchangeOf}
+use Rattle.ec20.specs.Devices.{Device, ec20, within}
+use Rattle.ec20.specs.Exchange.{swapped}
 use Rattle.ec20.specs.File.{byteAt, firstOf, countOf}
 use Rattle.ec20.specs.Memory.{Memory, withD}
-use Rattle.ec20.specs.Move.{Block, block, Pool, pool, Move, move, moveOf, movedByte, movedFile}
+use Rattle.ec20.specs.Move.{Block, block, Pool, pool, Move, move, moveFor, movedByte, movedFile}
 use Rattle.ec20.specs.Registers.{wordAt}
 use Rattle.ec20.specs.Scan.{Scan}
 use Rattle.moving.specs.Rename.{Swap, exchangeBy}
@@ -27,7 +27,7 @@ use Rattle.moving.specs.Series.{Input, series}
 use Rattle.moving.proofs.Exchange.{length-exchangeBy, at-exchange, read}
 use Rattle.moving.proofs.Series.{series-sim}
 use Rattle.moved.proofs.Example.{bytes-below}
-use Rattle.moved.proofs.Moved.{moved, moved-check}
+use Rattle.moved.proofs.Moved.{moved-for}
 use Rattle.ec20.proofs.Ranges.{within-yes}
 use Rattle.ec20.proofs.Tests.{is-false}
 use Rattle.demands.specs.Demand3.{OfBytes, withExchange, scanExchanged, Same, Demand3}
@@ -53,7 +53,7 @@ module _ (b : Block) (q : ℕ) where
   others-stay i h k =
       rw (is-false (within (b .start) (b .length) i) (λ e. h (within-in (b .start) (b .length) i e)), is-false (within q (b .length) i) (λ e. k (within-in q (b .length) i e)))
 
-  module _ (swap : Swap σ 8000) (d : List ℤ) (size : length d ≡ 8000) where
+  module _ (words : ℕ) (swap : Swap σ words) (d : List ℤ) (size : length d ≡ words) where
     abbrev d′ : List ℤ
     d′ = exchangeBy σ d
 
@@ -95,36 +95,39 @@ module _ (b : Block) (q : ℕ) (f g : List ℕ) (bytes : g ≡ movedFile b q f) 
         | no h ↦ List·getD-eq-default g 0 (omega (arith, same-size, h)) ∙ sym (List·getD-eq-default f 0 (omega (arith, h)))
       ]
 
-module _ (f : List ℕ) (byte : OfBytes f) (b : Block) (l : Pool) where
-  same : (q : ℕ) (g : List ℕ) → moveOf f b l ≡ move (To q) g → Same f b q g
-  unfolding exchangeOf
+-- on every device whose D numbers fit four bytes
+module _ (v : Device) (small : v .words ≤ 2 ^ 32) (f : List ℕ) (byte : OfBytes f) (b : Block) (l : Pool) where
+  same : (q : ℕ) (g : List ℕ) → moveFor v f b l ≡ move (To q) g → Same v f b q g
   same q g e =
-      let m = moved f byte b l q g e in
+      let m = moved-for v small f byte b l q g e in
       record {
         bytes = m .bytes;
         size = same-size b q f g (m .bytes);
         comment = λ i h. same-byte b q f g (m .bytes) i (comment-kept b q f (firstOf f) (countOf f) i h);
         trailer = λ i h. same-byte b q f g (m .bytes) i (trailer-kept b q f (firstOf f) (countOf f) i h);
         program = m .program;
-        check = moved-check f byte b l q g e;
+        check = m .answer;
         exchanges = λ d h.
             record {
               done = m .exchange d h;
               size = length-exchangeBy (swapped b q) d ∙ h;
-              to-place = in-place b q (m .swap) d h;
-              to-block = in-block b q (m .swap) d h;
-              others = elsewhere b q (m .swap) d h;
-              twice = twice-same b q (m .swap) d h;
+              to-place = in-place b q (v .words) (m .swap) d h;
+              to-block = in-block b q (v .words) (m .swap) d h;
+              others = elsewhere b q (v .words) (m .swap) d h;
+              twice = twice-same b q (v .words) (m .swap) d h;
             };
-        scans = series-sim (swapped b q) (m .swap) f g (moved-check f byte b l q g e) (m .program) (m .whole);
+        scans = series-sim (swapped b q) v (m .swap) f g (m .answer) (m .program) (m .whole);
       }
 
-  pub demand-3 : Demand3 f b l
-  demand-3 = record {
-    picks = move-numbers f b l .place;
-    no-place = move-numbers f b l .fourteen;
+  pub moves-on : Demand3 v f b l
+  moves-on = record {
+    picks = move-numbers v f b l .place;
+    no-place = move-numbers v f b l .fourteen;
     same = same;
   }
+
+pub demand-3 : (f : List ℕ) → OfBytes f → (b : Block) (l : Pool) → Demand3 ec20 f b l
+demand-3 f byte b l = moves-on ec20 (omega arith) f byte b l
 
 -- ---- and it is not for nothing: LD SM0, DMOV 100000 to D100, DDIV D100 by D200 to D104, END. The pool begins at D195, but D200 and D201 are in
 -- use: the block D100 to D109 goes to D202
@@ -138,17 +141,17 @@ ten = block 100 10
 abbrev free : Pool
 free = pool 195 400
 
-goes : moveOf (sample 100) ten free ≡ move (To 202) (sample 202)
+goes : moveFor ec20 (sample 100) ten free ≡ move (To 202) (sample 202)
 unfolding computing
 goes = refl
 
-met : Demand3 (sample 100) ten free
+met : Demand3 ec20 (sample 100) ten free
 met = demand-3 (sample 100) (bytes-below (sample 100) refl) ten free
 
-pub sample-same : Same (sample 100) ten 202 (sample 202)
+pub sample-same : Same ec20 (sample 100) ten 202 (sample 202)
 sample-same = met .same 202 (sample 202) goes
 
-pub sample-lowest : Lowest (sample 100) ten free 202
+pub sample-lowest : Lowest ec20 (sample 100) ten free 202
 sample-lowest = met .picks 202 .0 (ap (λ (m : Move). m .answer) goes) .1
 
 -- D201 holds 3: the quotient 33333 stands at D104 in the old program's table, at D206 in the moved one's, after each of two scans
@@ -161,13 +164,13 @@ twice = record { x = replicate 32 255; elapsed = 1; budget = 100 } ∷ record { 
 abbrev read-at : ℕ → Scan → ℤ
 read-at i s = wordAt (s .mem .d) i
 
-pub old-quotients : map (read-at 105) (series (sample 100) three twice) ≡ negℤ (pos 32203) ∷ negℤ (pos 32203) ∷ []
+pub old-quotients : map (read-at 105) (series ec20 (sample 100) three twice) ≡ negℤ (pos 32203) ∷ negℤ (pos 32203) ∷ []
 unfolding computing series three
 old-quotients = refl
 
-pub new-quotients : map (read-at 207) (series (sample 202) (withExchange ten 202 three) twice) ≡ negℤ (pos 32203) ∷ negℤ (pos 32203) ∷ []
+pub new-quotients : map (read-at 207) (series ec20 (sample 202) (withExchange ten 202 three) twice) ≡ negℤ (pos 32203) ∷ negℤ (pos 32203) ∷ []
 unfolding computing series three exchangeBy
 new-quotients = refl
 
-pub quotients-same : series (sample 202) (withExchange ten 202 three) twice ≡ map (scanExchanged ten 202) (series (sample 100) three twice)
+pub quotients-same : series ec20 (sample 202) (withExchange ten 202 three) twice ≡ map (scanExchanged ten 202) (series ec20 (sample 100) three twice)
 quotients-same = sample-same .scans three twice

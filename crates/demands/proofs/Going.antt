@@ -20,7 +20,7 @@ use Rattle.ec20.specs.declared.Operand.{Operand}
 use Rattle.ec20.specs.declared.Outcome.{Outcome}
 use Rattle.ec20.specs.declared.Rung.{Rung}
 use Rattle.ec20.specs.Code.{Program}
-use Rattle.ec20.specs.Control.{controlOf, controlsOf, marks, nextOf, labelOf, orPast}
+use Rattle.ec20.specs.Control.{controlOf, controlsOf, marks, nextOfFor, firstLabel, orPast}
 use Rattle.ec20.specs.Flow.{isOn, acted, failed, gone}
 use Rattle.ec20.specs.Rung.{startRung, bothEmpty, keeps, afterAction, afterRecord}
 use Rattle.ec20.specs.Step.{World, going, forOf, closeOf, jumpOf, outcomeOf, settle, wordOf, execOf, stepOf}
@@ -176,7 +176,7 @@ module _ (p : Program) (kept : (k : ℕ) → k < p .count → keeps (p .code k) 
 
   pub record Going (w : World) : Type 0 where
     pub stand : Stand (w .st)
-    pub backs : (i : ℕ) → i < w .st .depth → Back (getD (w .back) i 0)
+    pub backs : (i : ℕ) → i < w .st .depth → Back (getD (w .loops .back) i 0)
 
   -- so it has what the record due needs
   pub powered : (s : Machine) → s .pc < p .count → Stand s → Powered p s
@@ -236,36 +236,36 @@ module _ (p : Program) (kept : (k : ℕ) → k < p .count → keeps (p .code k) 
         u : Enters (controlsOf p) (p .count) (s .pc) (s .depth)
         u = due e
 
-        past : Stand (gone s (orPast (p .count) (nextOf (controlsOf p) (p .count) (s .pc)) + 1) (s .depth))
+        past : Stand (gone s (orPast (p .count) (nextOfFor (controlsOf p) (p .count) (s .pc)) + 1) (s .depth))
         past =
             rw (u .found)
             (land s (u .next + 1) (s .depth) x
             (start-after (u .next) Next (omega (arith, u .inside)) (closes-next (p .code (u .next)) (u .closing)) tt))
 
-        more : s .depth < 8 → (i : ℕ) → i < s .depth + 1 → Back (getD (set (w .back) (s .depth) (s .pc + 1)) i 0)
+        more : s .depth < 8 → (i : ℕ) → i < s .depth + 1 → Back (getD (set (w .loops .back) (s .depth) (s .pc + 1)) i 0)
         more r i l =
             elim (ℕ-discrete i (s .depth)) [
               | yes z ↦
-                  rw (z, getD-set-same (w .back) (s .depth) (s .pc + 1) 0 (omega (arith, safe .places, r)))
+                  rw (z, getD-set-same (w .loops .back) (s .depth) (s .pc + 1) 0 (omega (arith, safe .places, r)))
                   (record { at = s .pc; after = refl; inside = safe .inside; passes = c; is-for = e })
-              | no z ↦ rw (getD-set-other (w .back) (s .depth) i (s .pc + 1) 0 z) (h .backs i (omega arith))
+              | no z ↦ rw (getD-set-other (w .loops .back) (s .depth) i (s .pc + 1) 0 z) (h .backs i (omega arith))
             ]
 
     pub after-next : p .code (s .pc) ≡ Next → Empty s → Going (closeOf w)
     unfolding closeOf controlOf
     after-next e x =
-        picked Going (ltb 1 (getD (w .left) (s .depth - 1) 0)) _ _
+        picked Going (ltb 1 (getD (w .loops .left) (s .depth - 1) 0)) _ _
         (λ _. record { stand = again; backs = h .backs })
         (λ _. record { stand = land s (s .pc + 1) (s .depth - 1) x (next e tt); backs = λ i l. h .backs i (omega arith) })
       where
         some : 0 < s .depth
         some = due e
 
-        r : Back (getD (w .back) (s .depth - 1) 0)
+        r : Back (getD (w .loops .back) (s .depth - 1) 0)
         r = h .backs (s .depth - 1) (omega (arith, some))
 
-        again : Stand (gone s (getD (w .back) (s .depth - 1) 0) (s .depth))
-        again = land s (getD (w .back) (s .depth - 1) 0) (s .depth) x (ap (rungAt p) (r .after) ∙ start-after (r .at) (For (r .passes)) (r .inside) (r .is-for) tt)
+        again : Stand (gone s (getD (w .loops .back) (s .depth - 1) 0) (s .depth))
+        again = land s (getD (w .loops .back) (s .depth - 1) 0) (s .depth) x (ap (rungAt p) (r .after) ∙ start-after (r .at) (For (r .passes)) (r .inside) (r .is-for) tt)
 
     pub after-jump : (l : ℕ) → p .code (s .pc) ≡ Jump l → Empty s → Going (going w (w .mem) (jumpOf p l s))
     unfolding jumpOf controlOf
@@ -277,7 +277,7 @@ module _ (p : Program) (kept : (k : ℕ) → k < p .count → keeps (p .code k) 
         u : Lands (controlsOf p) (p .count) (s .pc) l
         u = due e
 
-        lands : Stand (gone s (orPast (p .count) (labelOf (controlsOf p) (p .count) l)) (s .depth))
+        lands : Stand (gone s (orPast (p .count) (firstLabel (controlsOf p) (p .count) l)) (s .depth))
         lands = rw (u .stands .first) (jumped l (marks-label l (p .code (u .to)) (u .marked)) (fresh s (u .to) (s .depth) x))
 
     after-label : (l : ℕ) → p .code (s .pc) ≡ Label l → Empty s → Going (going w (w .mem) (gone s (s .pc + 1) (s .depth)))

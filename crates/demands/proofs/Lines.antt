@@ -1,5 +1,5 @@
 -- The lines 9, 10, 11 and 12, and 9 and 14 of the exchange, as the definitions test them.
-use Prim.Native.Nat.{ℕ, _+_, _≤_, _<_}
+use Prim.Native.Nat.{ℕ, _+_, _/_, _≤_, _<_}
 use mathlib.Core.Bool.{Bool, true, false, not, _&&_}
 use mathlib.Core.List.{List}
 use mathlib.Core.Logic.{inl, inr}
@@ -13,7 +13,7 @@ use borrow.Author.Tests.{ltb-true, ltb-false, leb-true, leb-false, eqb-true, eqb
 use Rattle.ec20.proofs.Tests.{both, one-fails}
 use Rattle.ec20.specs.declared.Judged.the-variants.{Fine, Fault}
 use Rattle.ec20.specs.Basics.{pick}
-use Rattle.ec20.specs.Devices.{ec20, meets, meetsWork}
+use Rattle.ec20.specs.Devices.{Device, meets, meetsWork}
 use Rattle.ec20.specs.Exchange.{sizeFault, placeFault}
 use Rattle.ec20.specs.Memory.{Memory, sized}
 use Rattle.ec20.specs.Move.{Block, Pool, blockFault, poolFault, blockWork}
@@ -26,48 +26,48 @@ use Rattle.refusals.proofs.Tells.{Tells, tells}
 
 -- ---- 9, of the scan
 
-module _ (e : ℕ) (c : Memory) where
+module _ (v : Device) (e : ℕ) (c : Memory) where
   -- the tests, in their order, each with those before it
   abbrev X : Bool
-  X = eqb (length (c .x)) 32
+  X = eqb (length (c .x)) (v .x / 8)
 
   abbrev XY : Bool
-  XY = X && eqb (length (c .y)) 32
+  XY = X && eqb (length (c .y)) (v .y / 8)
 
   abbrev XYM : Bool
-  XYM = XY && eqb (length (c .m)) 250
+  XYM = XY && eqb (length (c .m)) (v .m / 8)
 
   abbrev XYMS : Bool
-  XYMS = XYM && eqb (length (c .sm)) 32
+  XYMS = XYM && eqb (length (c .sm)) (v .sm / 8)
 
   abbrev XYMST : Bool
-  XYMST = XYMS && eqb (length (c .t)) 32
+  XYMST = XYMS && eqb (length (c .t)) (v .t / 8)
 
   abbrev XYMSTD : Bool
-  XYMSTD = XYMST && eqb (length (c .d)) 8000
+  XYMSTD = XYMST && eqb (length (c .d)) (v .words)
 
-  pub misfit : fitting ec20 e c ≡ false → Line9 e c
+  pub misfit : fitting v e c ≡ false → Line9 v e c
   unfolding fitting sized
   misfit h =
-      elim (one-fails (sized ec20 c) (leb e 32767) h) [
+      elim (one-fails (sized v c) (leb e 32767) h) [
         | inr q ↦ elapsed (leb-false _ _ q)
         | inl q ↦
-            elim (one-fails XYMSTD (eqb (length (c .tv)) 256) q) [
+            elim (one-fails XYMSTD (eqb (length (c .tv)) (v .t)) q) [
               | inr q ↦ size-tv (eqb-false _ _ q)
               | inl q ↦
-                  elim (one-fails XYMST (eqb (length (c .d)) 8000) q) [
+                  elim (one-fails XYMST (eqb (length (c .d)) (v .words)) q) [
                     | inr q ↦ size-d (eqb-false _ _ q)
                     | inl q ↦
-                        elim (one-fails XYMS (eqb (length (c .t)) 32) q) [
+                        elim (one-fails XYMS (eqb (length (c .t)) (v .t / 8)) q) [
                           | inr q ↦ size-t (eqb-false _ _ q)
                           | inl q ↦
-                              elim (one-fails XYM (eqb (length (c .sm)) 32) q) [
+                              elim (one-fails XYM (eqb (length (c .sm)) (v .sm / 8)) q) [
                                 | inr q ↦ size-sm (eqb-false _ _ q)
                                 | inl q ↦
-                                    elim (one-fails XY (eqb (length (c .m)) 250) q) [
+                                    elim (one-fails XY (eqb (length (c .m)) (v .m / 8)) q) [
                                       | inr q ↦ size-m (eqb-false _ _ q)
                                       | inl q ↦
-                                          elim (one-fails X (eqb (length (c .y)) 32) q) [
+                                          elim (one-fails X (eqb (length (c .y)) (v .y / 8)) q) [
                                             | inr q ↦ size-y (eqb-false _ _ q)
                                             | inl q ↦ size-x (eqb-false _ _ q)
                                           ]
@@ -78,20 +78,20 @@ module _ (e : ℕ) (c : Memory) where
             ]
       ]
 
-  pub fits-all : fitting ec20 e c ≡ true → Line9 e c → ⊥
+  pub fits-all : fitting v e c ≡ true → Line9 v e c → ⊥
   unfolding fitting sized
   fits-all h n =
-      let a = both (sized ec20 c) (leb e 32767) h in
-      let tv = both XYMSTD (eqb (length (c .tv)) 256) (a .0) in
-      let d = both XYMST (eqb (length (c .d)) 8000) (tv .0) in
-      let t = both XYMS (eqb (length (c .t)) 32) (d .0) in
-      let sm = both XYM (eqb (length (c .sm)) 32) (t .0) in
-      let m = both XY (eqb (length (c .m)) 250) (sm .0) in
-      let y = both X (eqb (length (c .y)) 32) (m .0) in
+      let a = both (sized v c) (leb e 32767) h in
+      let tv = both XYMSTD (eqb (length (c .tv)) (v .t)) (a .0) in
+      let d = both XYMST (eqb (length (c .d)) (v .words)) (tv .0) in
+      let t = both XYMS (eqb (length (c .t)) (v .t / 8)) (d .0) in
+      let sm = both XYM (eqb (length (c .sm)) (v .sm / 8)) (t .0) in
+      let m = both XY (eqb (length (c .m)) (v .m / 8)) (sm .0) in
+      let y = both X (eqb (length (c .y)) (v .y / 8)) (m .0) in
       go n (eqb-true _ _ (y .0)) (eqb-true _ _ (y .1)) (eqb-true _ _ (m .1)) (eqb-true _ _ (sm .1)) (eqb-true _ _ (t .1)) (eqb-true _ _ (d .1)) (eqb-true _ _ (tv .1)) (leb-true _ _ (a .1))
     where
-      go : Line9 e c → length (c .x) ≡ 32 → length (c .y) ≡ 32 → length (c .m) ≡ 250 → length (c .sm) ≡ 32 → length (c .t) ≡ 32
-          → length (c .d) ≡ 8000 → length (c .tv) ≡ 256 → e ≤ 32767 → ⊥
+      go : Line9 v e c → length (c .x) ≡ v .x / 8 → length (c .y) ≡ v .y / 8 → length (c .m) ≡ v .m / 8 → length (c .sm) ≡ v .sm / 8 → length (c .t) ≡ v .t / 8
+          → length (c .d) ≡ v .words → length (c .tv) ≡ v .t → e ≤ 32767 → ⊥
       go (size-x z) a b c d e f g h = z a
       go (size-y z) a b c d e f g h = z b
       go (size-m z) a b c d e f g h = z c
@@ -103,69 +103,72 @@ module _ (e : ℕ) (c : Memory) where
 
 -- ---- 10, 11, 12
 
-module _ (b : Block) where
-  bad-block : (ltb 0 (b .length) && leb (b .start + b .length) 8000) ≡ false → Line10 b
+module _ (v : Device) (b : Block) where
+  bad-block : (ltb 0 (b .length) && leb (b .start + b .length) (v .words)) ≡ false → Line10 v b
   bad-block e =
-      elim (one-fails (ltb 0 (b .length)) (leb (b .start + b .length) 8000) e) [
+      elim (one-fails (ltb 0 (b .length)) (leb (b .start + b .length) (v .words)) e) [
         | inl q ↦ let h : b .length ≤ 0 = ltb-false _ _ q in empty (omega arith)
         | inr q ↦ outside (leb-false _ _ q)
       ]
 
-  good-block : (ltb 0 (b .length) && leb (b .start + b .length) 8000) ≡ true → Line10 b → ⊥
+  good-block : (ltb 0 (b .length) && leb (b .start + b .length) (v .words)) ≡ true → Line10 v b → ⊥
   good-block e (empty z) = let h : 0 < b .length = ltb-true _ _ (both (ltb 0 (b .length)) _ e .0) in omega arith
-  good-block e (outside z) = let h : b .start + b .length ≤ 8000 = leb-true _ _ (both (ltb 0 (b .length)) _ e .1) in omega arith
+  good-block e (outside z) = let h : b .start + b .length ≤ v .words = leb-true _ _ (both (ltb 0 (b .length)) _ e .1) in omega arith
 
-  pub judged-10 : Tells 10 (Line10 b) (blockFault ec20 b)
+  pub judged-10 : Tells 10 (Line10 v b) (blockFault v b)
   unfolding blockFault
-  judged-10 = tells (ltb 0 (b .length) && leb (b .start + b .length) 8000) 10 (Line10 b) good-block bad-block
+  judged-10 = tells (ltb 0 (b .length) && leb (b .start + b .length) (v .words)) 10 (Line10 v b) good-block bad-block
 
   -- a block that 10 does not refuse has a word, and lies in D
-  pub some-word : Not10 b → 0 < b .length
+  pub some-word : Not10 v b → 0 < b .length
   some-word h = elim (decLt 0 (b .length)) [ yes q ↦ q | no q ↦ absurd (h (empty (omega arith))) ]
 
-  pub judged-12 : Not10 b → Tells 12 (Line12 b) (blockWork ec20 b)
+  block-in : Not10 v b → b .start + b .length ≤ v .words
+  block-in h = elim (decLt (v .words) (b .start + b .length)) [ yes q ↦ absurd (h (outside q)) | no q ↦ omega arith ]
+
+  pub judged-12 : Not10 v b → Tells 12 (Line12 v b) (blockWork v b)
   unfolding blockWork
-  judged-12 h = go (meetsWork ec20 (b .start) (b .length)) refl
+  judged-12 h = go (meetsWork v (b .start) (b .length)) refl
     where
-      go : (t : Bool) → meetsWork ec20 (b .start) (b .length) ≡ t → Tells 12 (Line12 b) (pick t (Fault 12 0) Fine)
-      go true e = (refl, refl, let s = work-common (b .start) (b .length) (some-word h) e in in-work (s .0) (s .1) (s .2))
+      go : (t : Bool) → meetsWork v (b .start) (b .length) ≡ t → Tells 12 (Line12 v b) (pick t (Fault 12 0) Fine)
+      go true e = (refl, refl, let s = work-common v (b .start) (b .length) (some-word h) (block-in h) e in in-work (s .0) (s .1) (s .2))
       go false e = free
         where
-          free : Line12 b → ⊥
-          free (in-work i x y) = not-both (common-work (b .start) (b .length) i x y) e
+          free : Line12 v b → ⊥
+          free (in-work i x y) = not-both (common-work v (b .start) (b .length) i x y) e
 
-pub judged-11 : (l : Pool) → Tells 11 (Line11 l) (poolFault ec20 l)
+pub judged-11 : (v : Device) (l : Pool) → Tells 11 (Line11 v l) (poolFault v l)
 unfolding poolFault
-judged-11 l = tells (leb (l .start) (l .end) && leb (l .end) 8000) 11 (Line11 l) good bad
+judged-11 v l = tells (leb (l .start) (l .end) && leb (l .end) (v .words)) 11 (Line11 v l) good bad
   where
-    good : (leb (l .start) (l .end) && leb (l .end) 8000) ≡ true → Line11 l → ⊥
+    good : (leb (l .start) (l .end) && leb (l .end) (v .words)) ≡ true → Line11 v l → ⊥
     good e (start-above z) = let h : l .start ≤ l .end = leb-true _ _ (both (leb (l .start) (l .end)) _ e .0) in omega arith
-    good e (end-above z) = let h : l .end ≤ 8000 = leb-true _ _ (both (leb (l .start) (l .end)) _ e .1) in omega arith
+    good e (end-above z) = let h : l .end ≤ v .words = leb-true _ _ (both (leb (l .start) (l .end)) _ e .1) in omega arith
 
-    bad : (leb (l .start) (l .end) && leb (l .end) 8000) ≡ false → Line11 l
+    bad : (leb (l .start) (l .end) && leb (l .end) (v .words)) ≡ false → Line11 v l
     bad e =
-        elim (one-fails (leb (l .start) (l .end)) (leb (l .end) 8000) e) [
+        elim (one-fails (leb (l .start) (l .end)) (leb (l .end) (v .words)) e) [
           | inl q ↦ start-above (leb-false _ _ q)
           | inr q ↦ end-above (leb-false _ _ q)
         ]
 
 -- ---- 9 and 14 of the exchange
 
-pub judged-9D : (d : List ℤ) → Tells 9 (Line9D d) (sizeFault ec20 d)
+pub judged-9D : (v : Device) (d : List ℤ) → Tells 9 (Line9D v d) (sizeFault v d)
 unfolding sizeFault
-judged-9D d = tells (eqb (length d) 8000) 9 (Line9D d) (λ e h. h (eqb-true _ _ e)) (λ e. eqb-false _ _ e)
+judged-9D v d = tells (eqb (length d) (v .words)) 9 (Line9D v d) (λ e h. h (eqb-true _ _ e)) (λ e. eqb-false _ _ e)
 
-module _ (b : Block) (q : ℕ) (some : 0 < b .length) where
+module _ (v : Device) (b : Block) (q : ℕ) (some : 0 < b .length) where
   abbrev Inside : Bool
-  Inside = leb (q + b .length) 8000
+  Inside = leb (q + b .length) (v .words)
 
   abbrev Apart : Bool
   Apart = not (meets q (b .length) (b .start) (b .length))
 
   abbrev Off : Bool
-  Off = not (meetsWork ec20 q (b .length))
+  Off = not (meetsWork v q (b .length))
 
-  good-place : (Inside && Apart && Off) ≡ true → Line14D b q → ⊥
+  good-place : (Inside && Apart && Off) ≡ true → Line14D v b q → ⊥
   good-place e n = go n (leb-true _ _ (y .0)) (not-true _ (y .1)) (not-true _ (x .1))
     where
       x : ((Inside && Apart) ≡ true) × (Off ≡ true)
@@ -174,15 +177,19 @@ module _ (b : Block) (q : ℕ) (some : 0 < b .length) where
       y : (Inside ≡ true) × (Apart ≡ true)
       y = both Inside Apart (x .0)
 
-      go : Line14D b q → q + b .length ≤ 8000 → meets q (b .length) (b .start) (b .length) ≡ false → meetsWork ec20 q (b .length) ≡ false → ⊥
+      go : Line14D v b q → q + b .length ≤ v .words → meets q (b .length) (b .start) (b .length) ≡ false → meetsWork v q (b .length) ≡ false → ⊥
       go (place-outside z) h k m = omega (arith, z, h)
       go (place-in-block i z w) h k m = not-both (common-meets q (b .length) (b .start) (b .length) i z w) k
-      go (place-in-work i z w) h k m = not-both (common-work q (b .length) i z w) m
+      go (place-in-work i z w) h k m = not-both (common-work v q (b .length) i z w) m
 
-  bad-place : (Inside && Apart && Off) ≡ false → Line14D b q
+  bad-place : (Inside && Apart && Off) ≡ false → Line14D v b q
   bad-place e =
       elim (one-fails (Inside && Apart) Off e) [
-        | inr z ↦ let s = work-common q (b .length) some (not-false _ z) in place-in-work (s .0) (s .1) (s .2)
+        | inr z ↦
+            elim (decLt (v .words) (q + b .length)) [
+              | yes h ↦ place-outside h
+              | no h ↦ let s = work-common v q (b .length) some (omega arith) (not-false _ z) in place-in-work (s .0) (s .1) (s .2)
+            ]
         | inl z ↦
             elim (one-fails Inside Apart z) [
               | inl z ↦ place-outside (leb-false _ _ z)
@@ -190,6 +197,6 @@ module _ (b : Block) (q : ℕ) (some : 0 < b .length) where
             ]
       ]
 
-  pub judged-14D : Tells 14 (Line14D b q) (placeFault ec20 b q)
+  pub judged-14D : Tells 14 (Line14D v b q) (placeFault v b q)
   unfolding placeFault
-  judged-14D = tells (Inside && Apart && Off) 14 (Line14D b q) good-place bad-place
+  judged-14D = tells (Inside && Apart && Off) 14 (Line14D v b q) good-place bad-place

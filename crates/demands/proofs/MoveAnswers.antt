@@ -13,10 +13,10 @@ use Rattle.ec20.specs.declared.Moved.the-variants.{To, Refused}
 use Rattle.ec20.specs.declared.Verdict.{Verdict}
 use Rattle.ec20.specs.declared.Verdict.the-variants.{Accepted, Refused as Unfit}
 use Rattle.ec20.specs.Basics.{then}
-use Rattle.ec20.specs.Check.{checkFor, checkOf}
-use Rattle.ec20.specs.Devices.{ec20}
+use Rattle.ec20.specs.Check.{checkFor}
+use Rattle.ec20.specs.Devices.{Device}
 use Rattle.ec20.specs.File.{countOf, recordsOf}
-use Rattle.ec20.specs.Move.{Block, Pool, blockFault, poolFault, blockWork, splitFault, placeOf, judgeMove, moveTo, moveIf, moveAfter, moveFor, moveOf}
+use Rattle.ec20.specs.Move.{Block, Pool, blockFault, poolFault, blockWork, splitFault, placeOf, judgeMove, moveTo, moveIf, moveAfter, moveFor}
 use Rattle.refusals.proofs.Refused.{one-to-eight}
 use Rattle.refusals.proofs.Search.{Judges, judged-fine, judged-fault}
 use Rattle.demands.specs.Demand1.{MoveNumbers}
@@ -24,24 +24,24 @@ use Rattle.demands.specs.Lines.{Accepts, Line10, Not10, Line11, Not11, L
 use Rattle.refusals.proofs.Tells.{Tells, tells-fine, tells-fault}
 use Rattle.demands.proofs.Lines.{judged-10, some-word, judged-11, judged-12}
 use Rattle.demands.proofs.Split.{judged-13}
-use Rattle.demands.proofs.Places.{pool-order, Finds, found-place, one-lowest}
+use Rattle.demands.proofs.Places.{pool-order, pool-end, Finds, found-place, one-lowest}
 
-module _ (f : List ℕ) (b : Block) (l : Pool) where
+module _ (v : Device) (f : List ℕ) (b : Block) (l : Pool) where
   -- what is told of the move
   data Told : Moved → Type 0 where
-    by-check : {m k : ℕ} → checkOf f ≡ Unfit m k → Told (Refused m k)
-    by-10 : Accepts f → Line10 b → Told (Refused 10 0)
-    by-11 : Accepts f → Not10 b → Line11 l → Told (Refused 11 0)
-    by-12 : Accepts f → Not10 b → Not11 l → Line12 b → Told (Refused 12 0)
-    by-13 : {k : ℕ} → Accepts f → Not10 b → Not11 l → Not12 b → First13 f b k → Told (Refused 13 k)
-    by-14 : Asked f b l → Line14 f b l → Told (Refused 14 0)
-    taken : {q : ℕ} → Asked f b l → Lowest f b l q → Told (To q)
+    by-check : {m k : ℕ} → checkFor v f ≡ Unfit m k → Told (Refused m k)
+    by-10 : Accepts v f → Line10 v b → Told (Refused 10 0)
+    by-11 : Accepts v f → Not10 v b → Line11 v l → Told (Refused 11 0)
+    by-12 : Accepts v f → Not10 v b → Not11 v l → Line12 v b → Told (Refused 12 0)
+    by-13 : {k : ℕ} → Accepts v f → Not10 v b → Not11 v l → Not12 v b → First13 f b k → Told (Refused 13 k)
+    by-14 : Asked v f b l → Line14 v f b l → Told (Refused 14 0)
+    taken : {q : ℕ} → Asked v f b l → Lowest v f b l q → Told (To q)
 
   -- ---- the mover answers so
 
-  by-order : Accepts f → (x y z s : Judged) (p : Found) → Tells 10 (Line10 b) x → Tells 11 (Line11 l) y → (Not10 b → Tells 12 (Line12 b) z)
-      → (Not10 b → Judges 13 (countOf f) (Line13 f b) s)
-      → (Not10 b → Not11 l → Finds f b l p)
+  by-order : Accepts v f → (x y z s : Judged) (p : Found) → Tells 10 (Line10 v b) x → Tells 11 (Line11 v l) y → (Not10 v b → Tells 12 (Line12 v b) z)
+      → (Not10 v b → Judges 13 (countOf f) (Line13 f b) s)
+      → (Not10 v b → Not11 v l → Finds v f b l p)
       → Told (moveIf (then x (then y (then z s))) p f b .answer)
   by-order ok (Fault m k) y z s p g h i j q = rw (g .0, g .1) (by-10 ok (g .2))
   by-order ok Fine (Fault m k) z s p g h i j q = rw (h .0, h .1) (by-11 ok g (h .2))
@@ -52,87 +52,86 @@ module _ (f : List ℕ) (b : Block) (l : Pool) where
   by-order ok Fine Fine Fine Fine Nowhere g h i j q =
       by-14 (record { accepts = ok; not-10 = g; not-11 = h; not-12 = i g; not-13 = j g }) (q g h)
 
-  by-verdict : (x : Verdict) → checkOf f ≡ x → Told (moveAfter ec20 x f b l .answer)
+  by-verdict : (x : Verdict) → checkFor v f ≡ x → Told (moveAfter v x f b l .answer)
   unfolding judgeMove
   by-verdict (Accepted n w) c =
-      let ok : Accepts f = (n, w, c) in
-      by-order ok (blockFault ec20 b) (poolFault ec20 l) (blockWork ec20 b) (splitFault (recordsOf f) b) (placeOf ec20 (recordsOf f) b l)
-      (judged-10 b) (judged-11 l) (judged-12 b) (λ h. judged-13 f b ok (some-word b h))
-      (λ h i. found-place f b l ok (some-word b h) (pool-order l i))
+      let ok : Accepts v f = (n, w, c) in
+      by-order ok (blockFault v b) (poolFault v l) (blockWork v b) (splitFault (recordsOf f) b) (placeOf v (recordsOf f) b l)
+      (judged-10 v b) (judged-11 v l) (judged-12 v b) (λ h. judged-13 v f b ok (some-word v b h))
+      (λ h i. found-place v f b l ok (some-word v b h) (pool-order v l i) (pool-end v l i))
   by-verdict (Unfit m k) c = by-check c
 
-  told : Told (moveOf f b l .answer)
-  unfolding moveOf moveFor checkOf
-  told = by-verdict (checkFor ec20 f) refl
+  told : Told (moveFor v f b l .answer)
+  unfolding moveFor
+  told = by-verdict (checkFor v f) refl
 
   -- ---- and no other answer is told
 
-  answered : {x y z s : Judged} {p : Found} → Accepts f → blockFault ec20 b ≡ x → poolFault ec20 l ≡ y → blockWork ec20 b ≡ z
+  answered : {x y z s : Judged} {p : Found} → Accepts v f → blockFault v b ≡ x → poolFault v l ≡ y → blockWork v b ≡ z
       → splitFault (recordsOf f) b ≡ s
-      → placeOf ec20 (recordsOf f) b l ≡ p
-      → moveOf f b l .answer ≡ moveIf (then x (then y (then z s))) p f b .answer
-  unfolding moveOf moveFor checkOf judgeMove
+      → placeOf v (recordsOf f) b l ≡ p
+      → moveFor v f b l .answer ≡ moveIf (then x (then y (then z s))) p f b .answer
+  unfolding moveFor judgeMove
   answered ok g h i j q = rw (ok .2, g, h, i, j, q)
 
-  fine-10 : Not10 b → blockFault ec20 b ≡ Fine
-  fine-10 h = tells-fine 10 (Line10 b) (blockFault ec20 b) (judged-10 b) h
+  fine-10 : Not10 v b → blockFault v b ≡ Fine
+  fine-10 h = tells-fine 10 (Line10 v b) (blockFault v b) (judged-10 v b) h
 
-  fine-11 : Not11 l → poolFault ec20 l ≡ Fine
-  fine-11 h = tells-fine 11 (Line11 l) (poolFault ec20 l) (judged-11 l) h
+  fine-11 : Not11 v l → poolFault v l ≡ Fine
+  fine-11 h = tells-fine 11 (Line11 v l) (poolFault v l) (judged-11 v l) h
 
-  fine-12 : Not10 b → Not12 b → blockWork ec20 b ≡ Fine
-  fine-12 g h = tells-fine 12 (Line12 b) (blockWork ec20 b) (judged-12 b g) h
+  fine-12 : Not10 v b → Not12 v b → blockWork v b ≡ Fine
+  fine-12 g h = tells-fine 12 (Line12 v b) (blockWork v b) (judged-12 v b g) h
 
-  fine-13 : Asked f b l → splitFault (recordsOf f) b ≡ Fine
-  fine-13 a = judged-fine 13 (countOf f) (Line13 f b) (splitFault (recordsOf f) b) (judged-13 f b (a .accepts) (some-word b (a .not-10))) (a .not-13)
+  fine-13 : Asked v f b l → splitFault (recordsOf f) b ≡ Fine
+  fine-13 a = judged-fine 13 (countOf f) (Line13 f b) (splitFault (recordsOf f) b) (judged-13 v f b (a .accepts) (some-word v b (a .not-10))) (a .not-13)
 
-  found : Asked f b l → Finds f b l (placeOf ec20 (recordsOf f) b l)
-  found a = found-place f b l (a .accepts) (some-word b (a .not-10)) (pool-order l (a .not-11))
+  found : Asked v f b l → Finds v f b l (placeOf v (recordsOf f) b l)
+  found a = found-place v f b l (a .accepts) (some-word v b (a .not-10)) (pool-order v l (a .not-11)) (pool-end v l (a .not-11))
 
-  nowhere : (x : Found) → Finds f b l x → Line14 f b l → x ≡ Nowhere
+  nowhere : (x : Found) → Finds v f b l x → Line14 v f b l → x ≡ Nowhere
   nowhere (At q) h n = absurd (n q (h .right))
   nowhere Nowhere h n = refl
 
-  at-lowest : (x : Found) (q : ℕ) → Finds f b l x → Lowest f b l q → x ≡ At q
-  at-lowest (At p) q h n = ap At (one-lowest f b l p q h n)
+  at-lowest : (x : Found) (q : ℕ) → Finds v f b l x → Lowest v f b l q → x ≡ At q
+  at-lowest (At p) q h n = ap At (one-lowest v f b l p q h n)
   at-lowest Nowhere q h n = absurd (h q (n .right))
 
-  of-asked : {p : Found} → Asked f b l → placeOf ec20 (recordsOf f) b l ≡ p → moveOf f b l .answer ≡ moveTo p f b .answer
+  of-asked : {p : Found} → Asked v f b l → placeOf v (recordsOf f) b l ≡ p → moveFor v f b l .answer ≡ moveTo p f b .answer
   of-asked a e = answered (a .accepts) (fine-10 (a .not-10)) (fine-11 (a .not-11)) (fine-12 (a .not-10) (a .not-12)) (fine-13 a) e
 
-  answer : {r : Moved} → Told r → moveOf f b l .answer ≡ r
-  unfolding moveOf moveFor checkOf
-  answer (by-check {m} {k} e) = ap (λ (x : Verdict). moveAfter ec20 x f b l .answer) e
-  answer (by-10 ok h) = answered ok (tells-fault 10 (Line10 b) (blockFault ec20 b) (judged-10 b) h) refl refl refl refl
-  answer (by-11 ok g h) = answered ok (fine-10 g) (tells-fault 11 (Line11 l) (poolFault ec20 l) (judged-11 l) h) refl refl refl
+  answer : {r : Moved} → Told r → moveFor v f b l .answer ≡ r
+  unfolding moveFor
+  answer (by-check {m} {k} e) = ap (λ (x : Verdict). moveAfter v x f b l .answer) e
+  answer (by-10 ok h) = answered ok (tells-fault 10 (Line10 v b) (blockFault v b) (judged-10 v b) h) refl refl refl refl
+  answer (by-11 ok g h) = answered ok (fine-10 g) (tells-fault 11 (Line11 v l) (poolFault v l) (judged-11 v l) h) refl refl refl
   answer (by-12 ok g h i) =
-      answered ok (fine-10 g) (fine-11 h) (tells-fault 12 (Line12 b) (blockWork ec20 b) (judged-12 b g) i) refl refl
+      answered ok (fine-10 g) (fine-11 h) (tells-fault 12 (Line12 v b) (blockWork v b) (judged-12 v b g) i) refl refl
   answer (by-13 {k} ok g h i j) =
       answered ok (fine-10 g) (fine-11 h) (fine-12 g i)
-      (judged-fault 13 (countOf f) (Line13 f b) k (splitFault (recordsOf f) b) (judged-13 f b ok (some-word b g)) j)
+      (judged-fault 13 (countOf f) (Line13 f b) k (splitFault (recordsOf f) b) (judged-13 v f b ok (some-word v b g)) j)
       refl
-  answer (by-14 a h) = of-asked a (nowhere (placeOf ec20 (recordsOf f) b l) (found a) h)
-  answer (taken {q} a h) = of-asked a (at-lowest (placeOf ec20 (recordsOf f) b l) q (found a) h)
+  answer (by-14 a h) = of-asked a (nowhere (placeOf v (recordsOf f) b l) (found a) h)
+  answer (taken {q} a h) = of-asked a (at-lowest (placeOf v (recordsOf f) b l) q (found a) h)
 
   -- ---- number by number
 
   pub record Says (m k : ℕ) : Type 0 where
-    pub check : m ≤ 8 → checkOf f ≡ Unfit m k
-    pub ten : m ≡ 10 → (k ≡ 0) × Accepts f × Line10 b
-    pub eleven : m ≡ 11 → (k ≡ 0) × Accepts f × Not10 b × Line11 l
-    pub twelve : m ≡ 12 → (k ≡ 0) × Accepts f × Not10 b × Not11 l × Line12 b
-    pub thirteen : m ≡ 13 → Accepts f × Not10 b × Not11 l × Not12 b × First13 f b k
-    pub fourteen : m ≡ 14 → (k ≡ 0) × Asked f b l × Line14 f b l
+    pub check : m ≤ 8 → checkFor v f ≡ Unfit m k
+    pub ten : m ≡ 10 → (k ≡ 0) × Accepts v f × Line10 v b
+    pub eleven : m ≡ 11 → (k ≡ 0) × Accepts v f × Not10 v b × Line11 v l
+    pub twelve : m ≡ 12 → (k ≡ 0) × Accepts v f × Not10 v b × Not11 v l × Line12 v b
+    pub thirteen : m ≡ 13 → Accepts v f × Not10 v b × Not11 v l × Not12 v b × First13 f b k
+    pub fourteen : m ≡ 14 → (k ≡ 0) × Asked v f b l × Line14 v f b l
     pub no-other : (1 ≤ m) × ((m ≤ 8) ⊎ ((10 ≤ m) × (m ≤ 14)))
 
   abbrev Said : Moved → Type 0
-  Said (To q) = Asked f b l × Lowest f b l q
+  Said (To q) = Asked v f b l × Lowest v f b l q
   Said (Refused m k) = Says m k
 
   said : {r : Moved} → Told r → Said r
-  unfolding checkOf
   said (by-check {m} {k} e) =
-      let s = one-to-eight ec20 f m k e in
+      let s = one-to-eight v f m k e in
       record {
         check = λ _. e;
         ten = λ q. absurd (omega (arith, s .1, q));
@@ -194,7 +193,7 @@ module _ (f : List ℕ) (b : Block) (l : Pool) where
       }
   said (taken a h) = (a, h)
 
-  says : {r : Moved} → moveOf f b l .answer ≡ r → Said r
+  says : {r : Moved} → moveFor v f b l .answer ≡ r → Said r
   says e = subst Said e (said told)
 
   -- a refused call leaves the file
@@ -206,15 +205,15 @@ module _ (f : List ℕ) (b : Block) (l : Pool) where
   kept-judged Fine p m k e = kept-found p m k e
   kept-judged (Fault n j) p m k e = refl
 
-  kept-verdict : (x : Verdict) (m k : ℕ) → moveAfter ec20 x f b l .answer ≡ Refused m k → moveAfter ec20 x f b l .file ≡ f
-  kept-verdict (Accepted n w) m k e = kept-judged (judgeMove ec20 (recordsOf f) b l) (placeOf ec20 (recordsOf f) b l) m k e
+  kept-verdict : (x : Verdict) (m k : ℕ) → moveAfter v x f b l .answer ≡ Refused m k → moveAfter v x f b l .file ≡ f
+  kept-verdict (Accepted n w) m k e = kept-judged (judgeMove v (recordsOf f) b l) (placeOf v (recordsOf f) b l) m k e
   kept-verdict (Unfit n j) m k e = refl
 
-  move-kept : (m k : ℕ) → moveOf f b l .answer ≡ Refused m k → moveOf f b l .file ≡ f
-  unfolding moveOf moveFor
-  move-kept m k e = kept-verdict (checkFor ec20 f) m k e
+  move-kept : (m k : ℕ) → moveFor v f b l .answer ≡ Refused m k → moveFor v f b l .file ≡ f
+  unfolding moveFor
+  move-kept m k e = kept-verdict (checkFor v f) m k e
 
-  pub move-numbers : MoveNumbers f b l
+  pub move-numbers : MoveNumbers v f b l
   move-numbers = record {
     one-to-eight = λ m k h. (λ e. says e .check h, λ e. answer (by-check e));
     ten = λ k. (λ e. says e .ten refl, λ c. answer (by-10 (c .1) (c .2)) ∙ ap (Refused 10) (sym (c .0)));

@@ -1,11 +1,11 @@
 -- Ranges of words as the definitions test them, and by their words.
-use Prim.Native.Nat.{ℕ, _<_}
+use Prim.Native.Nat.{ℕ, _+_, _-_, _≤_, _<_}
 use mathlib.Core.Bool.{Bool, true, false}
 use mathlib.Core.Path.{_≡_, sym, _∙_}
 use native.Mathlib.Omega.{arith}
-use Rattle.ec20.proofs.Ranges.{common, common-meets as by-numbers, one-out as number-out}
+use Rattle.ec20.proofs.Ranges.{is-meets, common, common-meets as by-numbers, one-out as number-out}
 use Rattle.ec20.proofs.Tests.{differ}
-use Rattle.ec20.specs.Devices.{ec20, meets, inside, meetsWork}
+use Rattle.ec20.specs.Devices.{Device, meets, inside, meetsWork}
 use Rattle.demands.specs.Lines.{In, Work}
 
 pub not-both : {t : Bool} → t ≡ true → t ≡ false → ⊥
@@ -20,14 +20,16 @@ in-common a n b m h k e =
 pub common-meets : (a n b m i : ℕ) → In a n i → In b m i → meets a n b m ≡ true
 common-meets a n b m i h k = by-numbers a n b m i (h .from) (h .to) (k .from) (k .to)
 
--- the same of WORK
-pub work-common : (a n : ℕ) → 0 < n → meetsWork ec20 a n ≡ true → (i : ℕ) × In a n i × Work i
+-- the same of WORK, for words that lie in D
+pub work-common : (v : Device) (a n : ℕ) → 0 < n → a + n ≤ v .words → meetsWork v a n ≡ true → (i : ℕ) × In a n i × Work v i
 unfolding meetsWork
-work-common a n h e = in-common a n 7900 100 h (omega arith) e
+work-common v a n h k e =
+    let w : v .work < a + n = is-meets a n (v .work) (v .words - v .work) e .1 in
+    in-common a n (v .work) (v .words - v .work) h (omega arith) e
 
-pub common-work : (a n i : ℕ) → In a n i → Work i → meetsWork ec20 a n ≡ true
+pub common-work : (v : Device) (a n i : ℕ) → In a n i → Work v i → meetsWork v a n ≡ true
 unfolding meetsWork
-common-work a n i h k = common-meets a n 7900 100 i h k
+common-work v a n i h k = common-meets a n (v .work) (v .words - v .work) i h k
 
 -- a range that is not empty and not inside another has a word that is not in it
 pub one-out : (a n b m : ℕ) → 0 < n → inside a n b m ≡ false → (i : ℕ) × In a n i × (In b m i → ⊥)

@@ -1,5 +1,5 @@
 -- The answer to a frame, by the lines 9 and 16 of the table.
-use Prim.Native.Nat.{ℕ, _≤_, _<_}
+use Prim.Native.Nat.{ℕ, _/_, _≤_, _<_}
 use mathlib.Core.Bool.{Bool, true, false, _&&_}
 use mathlib.Core.List.{List}
 use mathlib.Core.Logic.{_⊎_, inl, inr}
@@ -13,6 +13,7 @@ use Rattle.ec20.proofs.Tests.{both, one-fails}
 use Rattle.ec20.specs.declared.Judged.{Judged}
 use Rattle.ec20.specs.declared.Judged.the-variants.{Fine, Fault}
 use Rattle.ec20.specs.Basics.{then}
+use Rattle.ec20.specs.Devices.{ec20}
 use Rattle.modbus.specs.declared.Answered.{Answered}
 use Rattle.modbus.specs.declared.Answered.the-variants.{Refused, Silent, Reply}
 use Rattle.modbus.specs.Answer.{tablesFault, callFault, judgeAnswer, answerIf, answerOf}
@@ -23,16 +24,16 @@ use Rattle.demands.specs.Demand1.{AnswerNumbers}
 use Rattle.demands.specs.Lines.{Line9R, Line16}
 use Rattle.demands.specs.Lines.{size-m as of-m, size-d as of-d, below, above, buffer}
 
-judged-9 : (m : List ℕ) (d : List ℤ) → Tells 9 (Line9R m d) (tablesFault m d)
+judged-9 : (m : List ℕ) (d : List ℤ) → Tells 9 (Line9R ec20 m d) (tablesFault m d)
 unfolding tablesFault
-judged-9 m d = tells (eqb (length m) 250 && eqb (length d) 8000) 9 (Line9R m d) right wrong
+judged-9 m d = tells (eqb (length m) (ec20 .m / 8) && eqb (length d) (ec20 .words)) 9 (Line9R ec20 m d) right wrong
   where
-    right : (eqb (length m) 250 && eqb (length d) 8000) ≡ true → Line9R m d → ⊥
-    right e (of-m h) = h (eqb-true _ _ (both (eqb (length m) 250) _ e .0))
-    right e (of-d h) = h (eqb-true _ _ (both (eqb (length m) 250) _ e .1))
+    right : (eqb (length m) (ec20 .m / 8) && eqb (length d) (ec20 .words)) ≡ true → Line9R ec20 m d → ⊥
+    right e (of-m h) = h (eqb-true _ _ (both (eqb (length m) (ec20 .m / 8)) _ e .0))
+    right e (of-d h) = h (eqb-true _ _ (both (eqb (length m) (ec20 .m / 8)) _ e .1))
 
-    wrong : (eqb (length m) 250 && eqb (length d) 8000) ≡ false → Line9R m d
-    wrong e = elim (one-fails (eqb (length m) 250) (eqb (length d) 8000) e) [ inl q ↦ of-m (eqb-false _ _ q) | inr q ↦ of-d (eqb-false _ _ q) ]
+    wrong : (eqb (length m) (ec20 .m / 8) && eqb (length d) (ec20 .words)) ≡ false → Line9R ec20 m d
+    wrong e = elim (one-fails (eqb (length m) (ec20 .m / 8)) (eqb (length d) (ec20 .words)) e) [ inl q ↦ of-m (eqb-false _ _ q) | inr q ↦ of-d (eqb-false _ _ q) ]
 
 judged-16 : (own : ℕ) (b : List ℕ) → Tells 16 (Line16 own b) (callFault own b)
 unfolding callFault
@@ -60,11 +61,11 @@ judged-16 own b = tells (leb 1 own && leb own 247 && leb 256 (length b)) 16 (Lin
 
 module _ (own : ℕ) (f m : List ℕ) (d : List ℤ) (b : List ℕ) where
   abbrev Not9R : Type 0
-  Not9R = Line9R m d → ⊥
+  Not9R = Line9R ec20 m d → ⊥
 
   -- what a refusal says
   record Says (n k : ℕ) : Type 0 where
-    pub nine : n ≡ 9 → (k ≡ 0) × Line9R m d
+    pub nine : n ≡ 9 → (k ≡ 0) × Line9R ec20 m d
     pub sixteen : n ≡ 16 → (k ≡ 0) × Not9R × Line16 own b
     pub no-other : (n ≡ 9) ⊎ (n ≡ 16)
 
@@ -73,7 +74,7 @@ module _ (own : ℕ) (f m : List ℕ) (d : List ℤ) (b : List ℕ) where
   Said Silent = Unit {0}
   Said (Reply l) = Unit {0}
 
-  by-order : (x y : Judged) → Tells 9 (Line9R m d) x → Tells 16 (Line16 own b) y → Said (answerIf (then x y) own f m d b .answer)
+  by-order : (x y : Judged) → Tells 9 (Line9R ec20 m d) x → Tells 16 (Line16 own b) y → Said (answerIf (then x y) own f m d b .answer)
   by-order (Fault n k) y p q =
       record { nine = λ _. (p .1, p .2); sixteen = λ e. absurd (omega (arith, p .0)); no-other = inl (p .0) }
   by-order Fine (Fault n k) p q =
@@ -87,14 +88,14 @@ module _ (own : ℕ) (f m : List ℕ) (d : List ℤ) (b : List ℕ) where
   says : {r : Answered} → answerOf own f m d b .answer ≡ r → Said r
   says e = subst Said e told
 
-  by-9 : Line9R m d → answerOf own f m d b .answer ≡ Refused 9 0
+  by-9 : Line9R ec20 m d → answerOf own f m d b .answer ≡ Refused 9 0
   unfolding answerOf judgeAnswer
-  by-9 h = rw (tells-fault 9 (Line9R m d) (tablesFault m d) (judged-9 m d) h)
+  by-9 h = rw (tells-fault 9 (Line9R ec20 m d) (tablesFault m d) (judged-9 m d) h)
 
   by-16 : Not9R → Line16 own b → answerOf own f m d b .answer ≡ Refused 16 0
   unfolding answerOf judgeAnswer
   by-16 g h =
-      rw (tells-fine 9 (Line9R m d) (tablesFault m d) (judged-9 m d) g, tells-fault 16 (Line16 own b) (callFault own b) (judged-16 own b) h)
+      rw (tells-fine 9 (Line9R ec20 m d) (tablesFault m d) (judged-9 m d) g, tells-fault 16 (Line16 own b) (callFault own b) (judged-16 own b) h)
 
   pub answer-numbers : AnswerNumbers own f m d b
   answer-numbers = record {

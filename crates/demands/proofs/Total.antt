@@ -8,9 +8,9 @@ use native.Mathlib.Omega.{arith}
 use Rattle.ec20.proofs.Computing.{computing}
 use Rattle.ec20.proofs.Files.{Y, M, SM, L, r0, r1, file, blank}
 use Rattle.ec20.specs.declared.Verdict.the-variants.{Accepted}
-use Rattle.ec20.specs.Check.{checkOf}
+use Rattle.ec20.specs.Check.{checkFor}
 use Rattle.ec20.specs.Code.{Program, programOf}
-use Rattle.ec20.specs.Devices.{ec20}
+use Rattle.ec20.specs.Devices.{Device, ec20}
 use Rattle.ec20.specs.Memory.{Memory}
 use Rattle.ec20.specs.Rung.{keeps}
 use Rattle.ec20.specs.Scan.{Scan, startState}
@@ -25,32 +25,31 @@ use Rattle.demands.proofs.Counted.{same-world}
 use Rattle.demands.proofs.Going.{Going, in-order, powered, step-going}
 use Rattle.demands.proofs.Power.{fresh-follows}
 
-module _ (f : List ℕ) (n w : ℕ) (ok : checkOf f ≡ Accepted n w) where
+module _ (v : Device) (f : List ℕ) (n w : ℕ) (ok : checkFor v f ≡ Accepted n w) where
   abbrev pub p : Program
   p = programOf f
 
   -- each record keeps the rung rule
   kept : (k : ℕ) → k < p .count → keeps (p .code k) (rungAt p k) ≡ true
-  unfolding checkOf programOf
+  unfolding programOf
   kept k h = go (keeps (p .code k) (rungAt p k)) refl
     where
       go : (t : Bool) → keeps (p .code k) (rungAt p k) ≡ t → t ≡ true
       go true e = refl
-      go false e = absurd (not-refused ec20 f n w .0 ok .4 k h e)
+      go false e = absurd (not-refused v f n w .0 ok .4 k h e)
 
   module _ (e : ℕ) (c : Memory) where
     abbrev pub after : ℕ → World
-    after j = afterSteps p e c j
+    after j = afterSteps v p e c j
 
     -- the scan has not ended after i steps, for any i below j
     abbrev pub Runs : ℕ → Type 0
     Runs j = (i : ℕ) → i < j → after i .st .ended ≡ 0
 
     safe : (j : ℕ) → Runs j → after j .st .ended ≡ 0 → Safe p (after j)
-    unfolding checkOf
     safe j h z =
-        let q = same-world p e c j h z in
-        elim (each-safe ec20 f n w ok e c j) [
+        let q = same-world v p e c j h z in
+        elim (each-safe v f n w ok e c j) [
           | inl x ↦ let y : after j .st .ended ≡ 1 = subst (λ (u : World). u .st .ended ≡ 1) q (x .ended) in absurd (omega (arith, y, z))
           | inr x ↦ subst (Safe p) q x
         ]
@@ -72,7 +71,7 @@ module _ (f : List ℕ) (n w : ℕ) (ok : checkOf f ≡ Accepted n w) where
         record { safe = s; powered = powered p kept (after j .st) (s .inside) (going j h z .stand) }
 
     -- TOTAL: so it is before each step that a scan makes
-    pub each-sound : (b : ℕ) (s : Scan) (t : Counted p e b c s) (j : ℕ) → j < t .steps → Sound p (after j)
+    pub each-sound : (b : ℕ) (s : Scan) (t : Counted v p e b c s) (j : ℕ) → j < t .steps → Sound p (after j)
     each-sound b s t j l = sound j (λ i k. t .before i (omega arith)) (t .before j l)
 
 -- ---- and it is not for nothing: LD SM0, MPS, LD M0, ANB, OUT Y0, MPP, OUT Y1, LD SM0, CJ 1, LD M1, LBL 1, END
@@ -94,32 +93,32 @@ sample =
     ∷ r0 23
     ∷ [])
 
-sample-ok : checkOf sample ≡ Accepted 12 12
+sample-ok : checkFor ec20 sample ≡ Accepted 12 12
 unfolding computing
 sample-ok = refl
 
 -- three steps made
-three : (i : ℕ) → i < 3 → afterSteps (programOf sample) 0 blank i .st .ended ≡ 0
+three : (i : ℕ) → i < 3 → afterSteps ec20 (programOf sample) 0 blank i .st .ended ≡ 0
 unfolding computing afterSteps
 three zero l = refl
 three (suc zero) l = refl
 three (suc (suc zero)) l = refl
 three (suc (suc (suc i))) l = absurd (omega arith)
 
-at-ANB : afterSteps (programOf sample) 0 blank 3 .st .ended ≡ 0
+at-ANB : afterSteps ec20 (programOf sample) 0 blank 3 .st .ended ≡ 0
 unfolding computing afterSteps
 at-ANB = refl
 
 -- ANB is due: flow is present, and in record order there is an entry on each stack
-pub ANB-sound : Sound (programOf sample) (afterSteps (programOf sample) 0 blank 3)
-ANB-sound = sound sample 12 12 sample-ok 0 blank 3 three at-ANB
+pub ANB-sound : Sound (programOf sample) (afterSteps ec20 (programOf sample) 0 blank 3)
+ANB-sound = sound ec20 sample 12 12 sample-ok 0 blank 3 three at-ANB
 
 pub one-entry : (rungAt (programOf sample) 3 .blocks ≡ 1) × (rungAt (programOf sample) 3 .branches ≡ 1)
 unfolding computing rungAt
 one-entry = (refl, refl)
 
 -- CJ goes to the LBL: after nine steps record 10 is due, with flow absent, though in record order flow is present there
-pub at-LBL : (afterSteps (programOf sample) 0 blank 9 .st .pc ≡ 10) × (afterSteps (programOf sample) 0 blank 9 .st .flow ≡ 0)
+pub at-LBL : (afterSteps ec20 (programOf sample) 0 blank 9 .st .pc ≡ 10) × (afterSteps ec20 (programOf sample) 0 blank 9 .st .flow ≡ 0)
     × (rungAt (programOf sample) 10 .present ≡ true)
 unfolding computing afterSteps rungAt
 at-LBL = (refl, refl, refl)

@@ -1,6 +1,6 @@
 -- DEMAND 2. "A scan of an accepted program leaves the memory, flags, errors and step count that document 01 states. It makes at most W steps.
 -- No scan changes WORK, D7900 to D7999." And with requests (document 02): "WORK now reads: changed by no scan and no request."
-use Prim.Native.Nat.{ℕ, _≤_, _<_}
+use Prim.Native.Nat.{ℕ, _*_, _/_, _≤_, _<_}
 use mathlib.Core.List.{List}
 use mathlib.Core.Logic.{_⊎_}
 use mathlib.Core.Path.{_≡_}
@@ -9,10 +9,11 @@ use Rattle.ec20.specs.declared.Scanned.{Scanned}
 use Rattle.ec20.specs.declared.Scanned.the-variants.{Ended, Watchdog}
 use Rattle.ec20.specs.Bits.{bitAt}
 use Rattle.ec20.specs.Code.{programOf}
+use Rattle.ec20.specs.Devices.{Device, ec20}
 use Rattle.ec20.specs.Memory.{Memory}
 use Rattle.ec20.specs.Registers.{wordAt}
-use Rattle.ec20.specs.Scan.{scanOf}
-use Rattle.ec20.specs.UseMap.{useMapOf}
+use Rattle.ec20.specs.Scan.{scanFor}
+use Rattle.ec20.specs.UseMap.{mapFor}
 use Rattle.bound.specs.Scans.{EndsIn}
 use Rattle.demands.specs.Events.{Event, afterEvents}
 use Rattle.demands.specs.Lines.{Work, Not9}
@@ -23,24 +24,28 @@ use Rattle.demands.specs.Total.{Sound}
 abbrev pub Reports : Scanned → Report → Type 0
 Reports a r = (a ≡ Ended r) ⊎ (a ≡ Watchdog r)
 
--- THE DEMAND, of a file f that is accepted with n records and W = w; for every elapsed time e, budget b and memory c.
-pub record Demand2 (f : List ℕ) (n w : ℕ) : Type 0 where
+-- The scans, on a device v, of a file f that is accepted there with n records and W = w; for every elapsed time e, budget b and memory c.
+pub record Scans (v : Device) (f : List ℕ) (n w : ℕ) : Type 0 where
   -- "leaves the memory, flags, errors and step count that document 01 states": it is as many steps of the definition as it tells, and the
   -- memory, in which the flags are, the first error and the record stopped at are as after exactly those steps
-  pub counted : (e b : ℕ) (c : Memory) → Not9 e c → Counted (programOf f) e b c (scanOf f e b c)
+  pub counted : (e b : ℕ) (c : Memory) → Not9 v e c → Counted v (programOf f) e b c (scanFor v f e b c)
   -- and at each record that it executes document 01 gives a meaning: flow, stacks, loops and jumps are as the record needs them
-  pub total : (e b : ℕ) (c : Memory) (h : Not9 e c) (j : ℕ) → j < counted e b c h .steps → Sound (programOf f) (afterSteps (programOf f) e c j)
+  pub total : (e b : ℕ) (c : Memory) (h : Not9 v e c) (j : ℕ) → j < counted e b c h .steps → Sound (programOf f) (afterSteps v (programOf f) e c j)
   -- the record stopped at is one of the program's
-  pub stops-inside : (e b : ℕ) (c : Memory) (r : Report) → Reports (scanOf f e b c .answer) r → r .stop < n
+  pub stops-inside : (e b : ℕ) (c : Memory) (r : Report) → Reports (scanFor v f e b c .answer) r → r .stop < n
   -- "It makes at most W steps."
-  pub at-most-w : (e b : ℕ) (c : Memory) (r : Report) → Reports (scanOf f e b c .answer) r → r .steps ≤ w
+  pub at-most-w : (e b : ℕ) (c : Memory) (r : Report) → Reports (scanFor v f e b c .answer) r → r .steps ≤ w
   -- so a budget of W is enough: it ends at END, the last record, and never in the watchdog
-  pub w-is-enough : (e b : ℕ) (c : Memory) → Not9 e c → w ≤ b → EndsIn (scanOf f e b c .answer) n w
-  pub no-watchdog : (e b : ℕ) (c : Memory) → w ≤ b → (r : Report) → scanOf f e b c .answer ≡ Watchdog r → ⊥
+  pub w-is-enough : (e b : ℕ) (c : Memory) → Not9 v e c → w ≤ b → EndsIn (scanFor v f e b c .answer) n w
+  pub no-watchdog : (e b : ℕ) (c : Memory) → w ≤ b → (r : Report) → scanFor v f e b c .answer ≡ Watchdog r → ⊥
   -- "No scan changes WORK, D7900 to D7999."
-  pub work : (e b : ℕ) (c : Memory) (i : ℕ) → Work i → wordAt (scanOf f e b c .mem .d) i ≡ wordAt (c .d) i
+  pub work : (e b : ℕ) (c : Memory) (i : ℕ) → Work v i → wordAt (scanFor v f e b c .mem .d) i ≡ wordAt (c .d) i
+  -- "A word not marked written is changed by no scan.": of the words, a multiple of eight, each has its bit
+  pub unmarked : (e b : ℕ) (c : Memory) (i : ℕ) → i < 8 * (v .words / 8) → bitAt (mapFor v f .written) i ≡ 0
+      → wordAt (scanFor v f e b c .mem .d) i ≡ wordAt (c .d) i
+
+-- THE DEMAND, of a file f that the EC20 accepts with n records and W = w.
+pub record Demand2 (f : List ℕ) (n w : ℕ) : Type 0 where
+  pub scans : Scans ec20 f n w
   -- "changed by no scan and no request": over any series of scans and requests
-  pub work-series : (c : Memory) (es : List Event) (i : ℕ) → Work i → wordAt (afterEvents f c es .d) i ≡ wordAt (c .d) i
-  -- "A word not marked written is changed by no scan."
-  pub unmarked : (e b : ℕ) (c : Memory) (i : ℕ) → i < 8000 → bitAt (useMapOf f .written) i ≡ 0
-      → wordAt (scanOf f e b c .mem .d) i ≡ wordAt (c .d) i
+  pub work-series : (c : Memory) (es : List Event) (i : ℕ) → Work ec20 i → wordAt (afterEvents f c es .d) i ≡ wordAt (c .d) i

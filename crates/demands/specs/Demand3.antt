@@ -10,12 +10,13 @@ use lib.IntN.{ℤ}
 use lib.ListN.{length}
 use Rattle.ec20.specs.declared.Exchanged.the-variants.{Done}
 use Rattle.ec20.specs.declared.Moved.the-variants.{To, Refused}
-use Rattle.ec20.specs.Check.{checkOf}
+use Rattle.ec20.specs.Check.{checkFor}
 use Rattle.ec20.specs.Code.{programOf}
-use Rattle.ec20.specs.Exchange.{swapped, exchangeOf}
+use Rattle.ec20.specs.Devices.{Device}
+use Rattle.ec20.specs.Exchange.{swapped, exchangeFor}
 use Rattle.ec20.specs.File.{byteAt, firstOf, countOf}
 use Rattle.ec20.specs.Memory.{Memory, withD}
-use Rattle.ec20.specs.Move.{Block, Pool, move, moveOf, movedFile}
+use Rattle.ec20.specs.Move.{Block, Pool, move, moveFor, movedFile}
 use Rattle.ec20.specs.Registers.{wordAt}
 use Rattle.ec20.specs.Scan.{Scan, scan}
 use Rattle.moving.specs.Rename.{renameProgram, exchangeBy}
@@ -37,19 +38,19 @@ withExchange b q c = withD c (exchange b q (c .d))
 abbrev pub scanExchanged : Block → ℕ → Scan → Scan
 scanExchanged b q s = scan (s .answer) (withExchange b q (s .mem))
 
--- "Exchange the two ranges in the D table": what that is, word by word, in a table d of 8,000 words
-pub record Exchanges (b : Block) (q : ℕ) (d : List ℤ) : Type 0 where
+-- "Exchange the two ranges in the D table": what that is, word by word, in a table d of as many words as the device has
+pub record Exchanges (v : Device) (b : Block) (q : ℕ) (d : List ℤ) : Type 0 where
   -- the call does it
-  pub done : exchangeOf d b q ≡ record { answer = Done; words = exchange b q d }
-  pub size : length (exchange b q d) ≡ 8000
+  pub done : exchangeFor v d b q ≡ record { answer = Done; words = exchange b q d }
+  pub size : length (exchange b q d) ≡ v .words
   pub to-place : (j : ℕ) → j < b .length → wordAt (exchange b q d) (q + j) ≡ wordAt d (b .start + j)
   pub to-block : (j : ℕ) → j < b .length → wordAt (exchange b q d) (b .start + j) ≡ wordAt d (q + j)
   pub others : (i : ℕ) → (InBlock b i → ⊥) → (In q (b .length) i → ⊥) → wordAt (exchange b q d) i ≡ wordAt d i
   -- and done again it is undone
   pub twice : exchange b q (exchange b q d) ≡ d
 
--- the file f, whose block b the mover put at q, and the file g that it left
-pub record Same (f : List ℕ) (b : Block) (q : ℕ) (g : List ℕ) : Type 0 where
+-- the file f, whose block b the mover of the device put at q, and the file g that it left
+pub record Same (v : Device) (f : List ℕ) (b : Block) (q : ℕ) (g : List ℕ) : Type 0 where
   -- "The moved program is the old file, byte for byte, with each D number in the block raised or lowered by the distance."
   pub bytes : g ≡ movedFile b q f
   -- so comment and trailer are as they were, and each record is the old one with its D numbers in the block exchanged for those of the place
@@ -58,17 +59,17 @@ pub record Same (f : List ℕ) (b : Block) (q : ℕ) (g : List ℕ) : Type 0 whe
   pub trailer : (i : ℕ) → firstOf f + 20 * countOf f ≤ i → byteAt g i ≡ byteAt f i
   pub program : programOf g ≡ renameProgram (swapped b q) (programOf f)
   -- it is accepted with as many records and the same W
-  pub check : checkOf g ≡ checkOf f
-  pub exchanges : (d : List ℤ) → length d ≡ 8000 → Exchanges b q d
+  pub check : checkFor v g ≡ checkFor v f
+  pub exchanges : (d : List ℤ) → length d ≡ v .words → Exchanges v b q d
   -- "for any memory and any series of inputs, elapsed times and budgets, every scan gives the old answer and the old memory with the ranges
   -- exchanged": the inputs are given alike to both
-  pub scans : (c : Memory) (is : List Input) → series g (withExchange b q c) is ≡ map (scanExchanged b q) (series f c is)
+  pub scans : (c : Memory) (is : List Input) → series v g (withExchange b q c) is ≡ map (scanExchanged b q) (series v f c is)
 
--- THE DEMAND, of every file of bytes f, block b and pool l.
-pub record Demand3 (f : List ℕ) (b : Block) (l : Pool) : Type 0 where
+-- THE DEMAND, of every file of bytes f, block b and pool l, on a device v.
+pub record Demand3 (v : Device) (f : List ℕ) (b : Block) (l : Pool) : Type 0 where
   -- "The mover picks the lowest right place"
-  pub picks : (q : ℕ) → (moveOf f b l .answer ≡ To q) ↔ (Asked f b l × Lowest f b l q)
+  pub picks : (q : ℕ) → (moveFor v f b l .answer ≡ To q) ↔ (Asked v f b l × Lowest v f b l q)
   -- "or says 'no place' exactly when there is none"
-  pub no-place : (k : ℕ) → (moveOf f b l .answer ≡ Refused 14 k) ↔ ((k ≡ 0) × Asked f b l × Line14 f b l)
+  pub no-place : (k : ℕ) → (moveFor v f b l .answer ≡ Refused 14 k) ↔ ((k ≡ 0) × Asked v f b l × Line14 v f b l)
   -- and of what it picks
-  pub same : (q : ℕ) (g : List ℕ) → moveOf f b l ≡ move (To q) g → Same f b q g
+  pub same : (q : ℕ) (g : List ℕ) → moveFor v f b l ≡ move (To q) g → Same v f b q g

@@ -1,6 +1,7 @@
--- A series of scans and requests over one memory, in any order.
+-- A series of scans and requests over one memory of the EC20, in any order.
 use Prim.Native.Nat.{ℕ}
 use mathlib.Core.List.{List, [], _∷_}
+use Rattle.ec20.specs.Devices.{ec20}
 use Rattle.ec20.specs.Memory.{Memory, withM, withD}
 use Rattle.modbus.specs.Answer.{answerOf}
 use Rattle.moving.specs.Series.{Input, scanWith}
@@ -12,7 +13,7 @@ pub data Event : Type 0 where
 
 -- the memory that it leaves
 unfoldable pub afterEvent : List ℕ → Memory → Event → Memory
-afterEvent f c (scans i) = scanWith f c i .mem
+afterEvent f c (scans i) = scanWith ec20 f c i .mem
 afterEvent f c (asks own g b) =
     let a = answerOf own g (c .m) (c .d) b in
     withD (withM c (a .m)) (a .d)

@@ -1,5 +1,6 @@
--- "Numbers of refusal", 9 to 14, line by line, of the EC20. The lines 1 to 8 are in the crate refusals.
-use Prim.Native.Nat.{ℕ, _+_, _≤_, _<_}
+-- "Numbers of refusal", 9 to 14, line by line, of a device. The lines 1 to 8 are in the crate refusals.
+use Prim.Native.Nat.{ℕ, _+_, _-_, _/_, _≤_, _<_}
+use mathlib.Core.Bool.{true}
 use mathlib.Core.List.{List}
 use mathlib.Core.Path.{_≡_}
 use lib.IntN.{ℤ}
@@ -7,11 +8,12 @@ use lib.ListN.{length}
 use Rattle.ec20.specs.declared.Operand.{Operand}
 use Rattle.ec20.specs.declared.Place.{Place}
 use Rattle.ec20.specs.declared.Verdict.the-variants.{Accepted}
-use Rattle.ec20.specs.Check.{checkOf}
-use Rattle.ec20.specs.Devices.{kindD}
+use Rattle.ec20.specs.Check.{checkFor}
+use Rattle.ec20.specs.Devices.{Device}
 use Rattle.ec20.specs.File.{countOf}
 use Rattle.ec20.specs.Memory.{Memory}
 use Rattle.ec20.specs.Move.{Block, Pool}
+use Rattle.ec20.specs.Operands.{inD, startOf, extentOf}
 use Rattle.refusals.specs.First.{First, Never}
 use Rattle.refusals.specs.Records.{Operand-at}
 use Rattle.refusals.specs.Table.{recordAt}
@@ -21,63 +23,63 @@ pub record In (a n i : ℕ) : Type 0 where
   pub from : a ≤ i
   pub to : i < a + n
 
--- "WORK is D7900 to D7999"
-abbrev pub Work : ℕ → Type 0
-Work i = In 7900 100 i
+-- word i is in WORK: "WORK is D7900 to D7999"
+abbrev pub Work : Device → ℕ → Type 0
+Work v i = In (v .work) (v .words - v .work) i
 
 -- word i is one of the block's
 abbrev pub InBlock : Block → ℕ → Type 0
 InBlock b i = In (b .start) (b .length) i
 
--- word i is one of the extent of the operand o, which is in D, at the place p of the table
+-- word i is one of the extent of the operand o, which has words in D, at the place p of the table
 pub record Extent (p : Place) (o : Operand) (i : ℕ) : Type 0 where
-  pub in-D : o .kind ≡ kindD
-  pub words : In (o .value) (p .extent) i
+  pub in-D : inD o ≡ true
+  pub words : In (startOf o) (extentOf p o) i
 
 -- nothing of 1 to 8: the file is accepted
-abbrev pub Accepts : List ℕ → Type 0
-Accepts f = (n w : ℕ) × (checkOf f ≡ Accepted n w)
+abbrev pub Accepts : Device → List ℕ → Type 0
+Accepts v f = (n w : ℕ) × (checkFor v f ≡ Accepted n w)
 
 -- ---- the scan
 
--- 9: "memory table of wrong size, or elapsed out of range"
-pub data Line9 (e : ℕ) (c : Memory) : Type 0 where
-  size-x : (length (c .x) ≡ 32 → ⊥) → Line9 e c
-  size-y : (length (c .y) ≡ 32 → ⊥) → Line9 e c
-  size-m : (length (c .m) ≡ 250 → ⊥) → Line9 e c
-  size-sm : (length (c .sm) ≡ 32 → ⊥) → Line9 e c
-  size-t : (length (c .t) ≡ 32 → ⊥) → Line9 e c
-  size-d : (length (c .d) ≡ 8000 → ⊥) → Line9 e c
-  size-tv : (length (c .tv) ≡ 256 → ⊥) → Line9 e c
-  elapsed : 32767 < e → Line9 e c
+-- 9: "memory table of wrong size, or elapsed out of range": of each kind as many as the device has, bits packed eight to a byte
+pub data Line9 (v : Device) (e : ℕ) (c : Memory) : Type 0 where
+  size-x : (length (c .x) ≡ v .x / 8 → ⊥) → Line9 v e c
+  size-y : (length (c .y) ≡ v .y / 8 → ⊥) → Line9 v e c
+  size-m : (length (c .m) ≡ v .m / 8 → ⊥) → Line9 v e c
+  size-sm : (length (c .sm) ≡ v .sm / 8 → ⊥) → Line9 v e c
+  size-t : (length (c .t) ≡ v .t / 8 → ⊥) → Line9 v e c
+  size-d : (length (c .d) ≡ v .words → ⊥) → Line9 v e c
+  size-tv : (length (c .tv) ≡ v .t → ⊥) → Line9 v e c
+  elapsed : 32767 < e → Line9 v e c
 
-abbrev pub Not9 : ℕ → Memory → Type 0
-Not9 e c = Line9 e c → ⊥
+abbrev pub Not9 : Device → ℕ → Memory → Type 0
+Not9 v e c = Line9 v e c → ⊥
 
 -- ---- the move
 
 -- 10: "block empty or not inside D"
-pub data Line10 (b : Block) : Type 0 where
-  empty : b .length ≡ 0 → Line10 b
-  outside : 8000 < b .start + b .length → Line10 b
+pub data Line10 (v : Device) (b : Block) : Type 0 where
+  empty : b .length ≡ 0 → Line10 v b
+  outside : v .words < b .start + b .length → Line10 v b
 
-abbrev pub Not10 : Block → Type 0
-Not10 b = Line10 b → ⊥
+abbrev pub Not10 : Device → Block → Type 0
+Not10 v b = Line10 v b → ⊥
 
 -- 11: "pool start above its end, or end above 8000"
-pub data Line11 (l : Pool) : Type 0 where
-  start-above : l .end < l .start → Line11 l
-  end-above : 8000 < l .end → Line11 l
+pub data Line11 (v : Device) (l : Pool) : Type 0 where
+  start-above : l .end < l .start → Line11 v l
+  end-above : v .words < l .end → Line11 v l
 
-abbrev pub Not11 : Pool → Type 0
-Not11 l = Line11 l → ⊥
+abbrev pub Not11 : Device → Pool → Type 0
+Not11 v l = Line11 v l → ⊥
 
 -- 12: "block meets WORK": they have a word in common
-pub data Line12 (b : Block) : Type 0 where
-  in-work : (i : ℕ) → InBlock b i → Work i → Line12 b
+pub data Line12 (v : Device) (b : Block) : Type 0 where
+  in-work : (i : ℕ) → InBlock b i → Work v i → Line12 v b
 
-abbrev pub Not12 : Block → Type 0
-Not12 b = Line12 b → ⊥
+abbrev pub Not12 : Device → Block → Type 0
+Not12 v b = Line12 v b → ⊥
 
 -- the operand's extent is partly in the block: one of its words is in it, and one is not
 pub record Partly (b : Block) (p : Place) (o : Operand) : Type 0 where
@@ -100,49 +102,49 @@ Not13 f b = Never (countOf f) (Line13 f b)
 
 -- The start q is right. "The place, as long as the block, lies whole in the pool, meets neither block nor WORK, and no operand's extent
 -- meets it": no word of the place is one of theirs.
-pub record Right (f : List ℕ) (b : Block) (l : Pool) (q : ℕ) : Type 0 where
+pub record Right (v : Device) (f : List ℕ) (b : Block) (l : Pool) (q : ℕ) : Type 0 where
   pub from : l .start ≤ q
   pub to : q + b .length ≤ l .end
   pub off-block : (i : ℕ) → In q (b .length) i → InBlock b i → ⊥
-  pub off-work : (i : ℕ) → In q (b .length) i → Work i → ⊥
+  pub off-work : (i : ℕ) → In q (b .length) i → Work v i → ⊥
   pub unused : (k : ℕ) → k < countOf f → (p : Place) (o : Operand) → Operand-at (recordAt f k) p o
       → (i : ℕ) → In q (b .length) i → Extent p o i → ⊥
 
 -- "the lowest such"
-pub record Lowest (f : List ℕ) (b : Block) (l : Pool) (q : ℕ) : Type 0 where
-  pub right : Right f b l q
-  pub none-lower : (j : ℕ) → j < q → Right f b l j → ⊥
+pub record Lowest (v : Device) (f : List ℕ) (b : Block) (l : Pool) (q : ℕ) : Type 0 where
+  pub right : Right v f b l q
+  pub none-lower : (j : ℕ) → j < q → Right v f b l j → ⊥
 
 -- 14: "no place": no start is right
-abbrev pub Line14 : List ℕ → Block → Pool → Type 0
-Line14 f b l = (q : ℕ) → Right f b l q → ⊥
+abbrev pub Line14 : Device → List ℕ → Block → Pool → Type 0
+Line14 v f b l = (q : ℕ) → Right v f b l q → ⊥
 
 -- nothing ahead of 14: the file is accepted, and none of 10 to 13 holds
-pub record Asked (f : List ℕ) (b : Block) (l : Pool) : Type 0 where
-  pub accepts : Accepts f
-  pub not-10 : Not10 b
-  pub not-11 : Not11 l
-  pub not-12 : Not12 b
+pub record Asked (v : Device) (f : List ℕ) (b : Block) (l : Pool) : Type 0 where
+  pub accepts : Accepts v f
+  pub not-10 : Not10 v b
+  pub not-11 : Not11 v l
+  pub not-12 : Not12 v b
   pub not-13 : Not13 f b
 
 -- ---- the exchange
 
 -- 9: "memory table of wrong size"
-abbrev pub Line9D : List ℤ → Type 0
-Line9D d = length d ≡ 8000 → ⊥
+abbrev pub Line9D : Device → List ℤ → Type 0
+Line9D v d = length d ≡ v .words → ⊥
 
 -- 14: "if the place is not inside D, meets the block or meets WORK"
-pub data Line14D (b : Block) (q : ℕ) : Type 0 where
-  outside : 8000 < q + b .length → Line14D b q
-  in-block : (i : ℕ) → In q (b .length) i → InBlock b i → Line14D b q
-  in-work : (i : ℕ) → In q (b .length) i → Work i → Line14D b q
+pub data Line14D (v : Device) (b : Block) (q : ℕ) : Type 0 where
+  outside : v .words < q + b .length → Line14D v b q
+  in-block : (i : ℕ) → In q (b .length) i → InBlock b i → Line14D v b q
+  in-work : (i : ℕ) → In q (b .length) i → Work v i → Line14D v b q
 
 -- ---- the answer to a Modbus frame
 
 -- 9: "memory table of wrong size", of the two that are lent
-pub data Line9R (m : List ℕ) (d : List ℤ) : Type 0 where
-  size-m : (length m ≡ 250 → ⊥) → Line9R m d
-  size-d : (length d ≡ 8000 → ⊥) → Line9R m d
+pub data Line9R (v : Device) (m : List ℕ) (d : List ℤ) : Type 0 where
+  size-m : (length m ≡ v .m / 8 → ⊥) → Line9R v m d
+  size-d : (length d ≡ v .words → ⊥) → Line9R v m d
 
 -- 16: "An own station outside 1 to 247 or a reply buffer under 256 bytes is 16, after 9."
 pub data Line16 (own : ℕ) (b : List ℕ) : Type 0 where

@@ -6,14 +6,15 @@ use Rattle.ec20.specs.declared.Report.{Report}
 use Rattle.ec20.specs.declared.Scanned.{Scanned}
 use Rattle.ec20.specs.declared.Scanned.the-variants.{Ended, Watchdog}
 use Rattle.ec20.specs.Code.{Program}
+use Rattle.ec20.specs.Devices.{Device}
 use Rattle.ec20.specs.Memory.{Memory}
 use Rattle.ec20.specs.Step.{World, stepOf}
 use Rattle.ec20.specs.Scan.{Scan, startWorld}
 
--- the world after k steps of the definition, from the start of a scan on the memory c, with e elapsed units
-unfoldable pub afterSteps : Program → ℕ → Memory → ℕ → World
-afterSteps p e c zero = startWorld c
-afterSteps p e c (suc k) = stepOf p e (afterSteps p e c k)
+-- the world after k steps of the definition, from the start of a scan on the memory c of a device, with e elapsed units
+unfoldable pub afterSteps : Device → Program → ℕ → Memory → ℕ → World
+afterSteps v p e c zero = startWorld v c
+afterSteps v p e c (suc k) = stepOf p e (afterSteps v p e c k)
 
 -- "the steps, the record stopped at (END, or the one due), and the first error with its record"
 abbrev pub reportOf : ℕ → Machine → Report
@@ -26,9 +27,9 @@ pub data Answer (b k : ℕ) (s : Machine) : Scanned → Type 0 where
 
 -- The scan s is a run of so many steps of the definition: none is made after END, none beyond the budget b, and answer and memory are as
 -- "after exactly those steps".
-pub record Counted (p : Program) (e b : ℕ) (c : Memory) (s : Scan) : Type 0 where
+pub record Counted (v : Device) (p : Program) (e b : ℕ) (c : Memory) (s : Scan) : Type 0 where
   pub steps : ℕ
   pub in-budget : steps ≤ b
-  pub before : (j : ℕ) → j < steps → afterSteps p e c j .st .ended ≡ 0
-  pub answer : Answer b steps (afterSteps p e c steps .st) (s .answer)
-  pub memory : s .mem ≡ afterSteps p e c steps .mem
+  pub before : (j : ℕ) → j < steps → afterSteps v p e c j .st .ended ≡ 0
+  pub answer : Answer b steps (afterSteps v p e c steps .st) (s .answer)
+  pub memory : s .mem ≡ afterSteps v p e c steps .mem

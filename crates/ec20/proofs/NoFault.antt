@@ -1,19 +1,19 @@
 -- What it says that nothing is refused: of judgements, of block, pool and place, of a record, of a whole file. Assumes nothing.
-use Prim.Native.Nat.{ℕ, _+_, _-_, _≤_, _<_}
+use Prim.Native.Nat.{ℕ, _+_, _-_, _*_, _≤_, _<_}
 use mathlib.Core.Bool.{Bool, true, false, not, _&&_}
 use mathlib.Core.List.{List}
 use mathlib.Core.Path.{_≡_, refl}
 use native.Mathlib.Omega.{arith}
-use lib.Dec.{ltb, leb}
+use lib.ListN.{length}
+use lib.Dec.{ltb, leb, eqb}
 use borrow.Author.Tests.{ltb-true, leb-true, not-true}
 use Rattle.ec20.proofs.Tests.{both, each}
 use Rattle.ec20.specs.Basics.{pick, then}
-use Rattle.ec20.specs.Check.{walked, judgeProgram, judgeFile, verdictOf, checkFor}
+use Rattle.ec20.specs.Check.{judgeProgram, judgeFile, verdictOf, checkFor, wOf}
 use Rattle.ec20.specs.Code.{Program, programOf}
 use Rattle.ec20.specs.Devices.{Device, meets, inside, meetsWork}
 use Rattle.ec20.specs.Exchange.{placeFault}
-use Rattle.ec20.specs.File.{Records, framed, recordsOf}
-use Rattle.ec20.specs.Loops.{stepsOf}
+use Rattle.ec20.specs.File.{Records, editionOf, countOf, distanceOf, firstOf, framed, recordsOf}
 use Rattle.ec20.specs.Move.{Block, block, Pool, touches, blockFault, poolFault, isPlace}
 use Rattle.ec20.specs.Operands.{isKnown, operandsOk, targetInWork, faultOf, faultIn, firstBad}
 use Rattle.ec20.specs.Table.{rowOf}
@@ -80,7 +80,7 @@ pub record-fine : (v : Device) (r : Rec) → faultIn v r ≡ 0
 unfolding faultIn faultOf
 record-fine v r e = go (isKnown (rowOf (r .number)) r) (operandsOk v (rowOf (r .number)) r) (targetInWork v (rowOf (r .number)) r) e
   where
-    go : (a b c : Bool) → _≡_ {A = ℕ} (pick a (pick b (pick c 4 0) 3) 2) 0 → (a ≡ true) × (b ≡ true) × (c ≡ false)
+    go : (a b c : Bool) → _≡_ {A = ℕ} (pick (not a) 2 (pick (not b) 3 (pick c 4 0))) 0 → (a ≡ true) × (b ≡ true) × (c ≡ false)
     go true true true e = absurd (omega arith)
     go true true false e = (refl, refl, refl)
     go true false c e = absurd (omega arith)
@@ -90,14 +90,24 @@ record-fine v r e = go (isKnown (rowOf (r .number)) r) (operandsOk v (rowOf (r .
 
 -- accepted: framed, no fault, and the records and steps that are told
 parts : (t : Bool) (p : Program) (j : Judged) (n w : ℕ) → pick t (verdictOf p j) (Refused 1 0) ≡ Accepted n w
-    → (t ≡ true) × (j ≡ Fine) × (p .count ≡ n) × (stepsOf (walked p) ≡ w)
+    → (t ≡ true) × (j ≡ Fine) × (p .count ≡ n) × (wOf p ≡ w)
 parts true p Fine n w e = (refl, refl, cc, cc)
 parts true p (Fault m k) n w e = let z : _≡_ {A = ℕ} 0 1 = cc in absurd (omega arith)
 parts false p j n w e = let z : _≡_ {A = ℕ} 0 1 = cc in absurd (omega arith)
 
+-- a frame that is right has a record
+pub framed-some : (f : List ℕ) → framed f ≡ true → 1 ≤ countOf f
+unfolding framed
+framed-some f e =
+    let a = both _ (leb (firstOf f) 4096) e in
+    let b = both _ (leb (distanceOf f) (length f)) (a .0) in
+    let c = both _ (eqb (distanceOf f) (20 * countOf f + 8)) (b .0) in
+    let d = both _ (leb (countOf f) 2000) (c .0) in
+    leb-true _ _ (both (leb 8 (length f) && eqb (editionOf f) 1) (leb 1 (countOf f)) (d .0) .1)
+
 -- an accepted file
 module _ (v : Device) (f : List ℕ) (n w : ℕ) (ok : checkFor v f ≡ Accepted n w) where
-  told : (framed f ≡ true) × (judgeFile v f ≡ Fine) × (programOf f .count ≡ n) × (stepsOf (walked (programOf f)) ≡ w)
+  told : (framed f ≡ true) × (judgeFile v f ≡ Fine) × (programOf f .count ≡ n) × (wOf (programOf f) ≡ w)
   unfolding checkFor
   told = parts (framed f) (programOf f) (judgeFile v f) n w ok
 
@@ -118,5 +128,10 @@ module _ (v : Device) (f : List ℕ) (n w : ℕ) (ok : checkFor v f ≡ Accepted
   pub accepted-count : programOf f .count ≡ n
   accepted-count = told .2
 
-  pub accepted-steps : stepsOf (walked (programOf f)) ≡ w
+  -- it has a record
+  pub accepted-some : 0 < programOf f .count
+  unfolding programOf
+  accepted-some = let h = framed-some f accepted-framed in omega arith
+
+  pub accepted-steps : wOf (programOf f) ≡ w
   accepted-steps = told .3

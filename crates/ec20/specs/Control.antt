@@ -1,6 +1,6 @@
--- A program as loops and jumps see it, and the two searches: for the NEXT of a FOR, and for a label.
+-- A program as loops and jumps see it: how many loops are open, where the NEXT of a FOR is, and where a label is.
 use Prim.Native.Nat.{ℕ, zero, suc, _+_, _-_}
-use mathlib.Core.Bool.{Bool, true, false}
+use mathlib.Core.Bool.{Bool, true, false, _&&_}
 use lib.Dec.{eqb}
 use Rattle.ec20.specs.declared.Instr.{Instr}
 use Rattle.ec20.specs.declared.Instr.the-variants.{Nop, Contact, Compare, Join, Branch, Coil, Timer, For, Next, Jump, Label, End, Word}
@@ -8,8 +8,6 @@ use Rattle.ec20.specs.declared.Control.{Control}
 use Rattle.ec20.specs.declared.Control.the-variants.{Plain, Opens, Closes, Jumps, Marks, Ends}
 use Rattle.ec20.specs.declared.Found.{Found}
 use Rattle.ec20.specs.declared.Found.the-variants.{At, Nowhere}
-use Rattle.ec20.specs.declared.Turn.{Turn}
-use Rattle.ec20.specs.declared.Turn.the-variants.{Hit, Stop, On}
 use Rattle.ec20.specs.Basics.{pick, firstAt}
 use Rattle.ec20.specs.Code.{Program}
 
@@ -36,6 +34,16 @@ controlOf (Word n a b t) = Plain
 abbrev pub controlsOf : Program → Controls
 controlsOf p = λ k. controlOf (p .code k)
 
+-- how many loops are open after a record, of d before it: FOR one more, NEXT one less
+unfoldable pub openAfter : Control → ℕ → ℕ
+openAfter Plain d = d
+openAfter (Opens n) d = d + 1
+openAfter Closes d = d - 1
+openAfter (Jumps l) d = d
+openAfter (Marks l) d = d
+openAfter Ends d = d
+
+-- closes a loop
 unfoldable pub closes : Control → Bool
 closes Plain = false
 closes (Opens n) = false
@@ -53,41 +61,27 @@ marks l (Jumps m) = false
 marks l (Marks m) = eqb m l
 marks l Ends = false
 
--- A search goes from record to record in one loop body: it passes over the loops inside it, and the body's NEXT ends it. Of a record that is
--- not the one looked for, d deep in loops inside the body:
-unfoldable pub shiftOf : Control → ℕ → Turn
-shiftOf Plain d = On d
-shiftOf (Opens n) d = On (d + 1)
-shiftOf Closes d = pick (eqb d 0) Stop (On (d - 1))
-shiftOf (Jumps l) d = On d
-shiftOf (Marks l) d = On d
-shiftOf Ends d = On d
-
--- what is looked for counts only directly in the body
-unfoldable pub turnOf : Bool → Control → ℕ → Turn
-turnOf wanted i d = pick (eqb d 0) (pick wanted Hit (shiftOf i d)) (shiftOf i d)
-
-unfoldable pub byTurn : Turn → ℕ → (ℕ → Found) → Found
-byTurn Hit k more = At k
-byTurn Stop k more = Nowhere
-byTurn (On d) k more = more d
-
--- the first wanted record among the n from k on that stands directly in the body searched, where k is d deep
-unfoldable pub findOf : (Control → Bool) → Controls → ℕ → ℕ → ℕ → Found
-findOf want code zero k d = Nowhere
-findOf want code (suc n) k d = byTurn (turnOf (want (code k)) (code k) d) k (λ j. findOf want code n (k + 1) j)
+-- A search in one loop body, of the n records from k on, where k is d deep in loops inside that body: the first wanted record that stands directly
+-- in the body. The body's own NEXT ends the search.
+unfoldable pub searchBody : Controls → (Control → Bool) → ℕ → ℕ → ℕ → Found
+searchBody code want d k zero = Nowhere
+searchBody code want d k (suc n) =
+    let later = searchBody code want (openAfter (code k) d) (k + 1) n in
+    pick (eqb d 0 && want (code k)) (At k)
+    (pick (eqb d 0 && closes (code k)) Nowhere
+    later)
 
 -- the same in a program of so many records, from record k on
-abbrev pub findFrom : Controls → ℕ → (Control → Bool) → ℕ → ℕ → Found
-findFrom code count want k d = findOf want code (count - k) k d
+abbrev pub foundInBody : Controls → ℕ → (Control → Bool) → ℕ → ℕ → Found
+foundInBody code count want d k = searchBody code want d k (count - k)
 
 -- the NEXT of the FOR at record k
-abbrev pub nextOf : Controls → ℕ → ℕ → Found
-nextOf code count k = findFrom code count closes (k + 1) 0
+abbrev pub nextOfFor : Controls → ℕ → ℕ → Found
+nextOfFor code count k = foundInBody code count closes 0 (k + 1)
 
 -- a label's place: "its first LBL"
-abbrev pub labelOf : Controls → ℕ → ℕ → Found
-labelOf code count l = firstAt (λ k. marks l (code k)) count 0
+abbrev pub firstLabel : Controls → ℕ → ℕ → Found
+firstLabel code count l = firstAt (λ k. marks l (code k)) 0 count
 
 -- the record found; past the program if there is none
 abbrev pub orPast : ℕ → Found → ℕ

@@ -6,7 +6,10 @@ pub mod Devices
 pub mod Numbers
 pub mod Bits
 pub mod Registers
--- Instructions: the table, with each operand's role, width and extent
+-- Instructions: the table, with each operand's role, width and extent; what it is written in: mnemonics, roles, forms
+pub mod Mnemonics
+pub mod Roles
+pub mod Forms
 pub mod Table
 -- The program file: frame (1), record, operand
 pub mod File
@@ -33,3 +36,5 @@ pub mod Move
 pub mod Exchange
 -- Each answer in the scope's numbers
 pub mod Answers
+-- How the code goes about 6, 7 and W. Nothing above uses it
+pub mod Walkers

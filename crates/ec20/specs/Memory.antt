@@ -26,16 +26,17 @@ pub record Memory : Type 0 where
 abbrev pub memory : List ℕ → List ℕ → List ℕ → List ℕ → List ℕ → List ℤ → List ℤ → Memory
 memory x y m sm t d tv = record { x = x; y = y; m = m; sm = sm; t = t; d = d; tv = tv }
 
--- "X 32 bytes, Y 32, M 250, SM 32, T contacts 32, 8,000 signed 16-bit D words and 256 signed 16-bit T values"
+-- "X 32 bytes, Y 32, M 250, SM 32, T contacts 32, 8,000 signed 16-bit D words and 256 signed 16-bit T values": of each kind as many as the
+-- device has, bits packed eight to a byte
 unfoldable pub sized : Device → Memory → Bool
 sized v c =
-    eqb (length (c .x)) 32
-    && eqb (length (c .y)) 32
-    && eqb (length (c .m)) 250
-    && eqb (length (c .sm)) 32
-    && eqb (length (c .t)) 32
+    eqb (length (c .x)) (v .x / 8)
+    && eqb (length (c .y)) (v .y / 8)
+    && eqb (length (c .m)) (v .m / 8)
+    && eqb (length (c .sm)) (v .sm / 8)
+    && eqb (length (c .t)) (v .t / 8)
     && eqb (length (c .d)) (v .words)
-    && eqb (length (c .tv)) 256
+    && eqb (length (c .tv)) (v .t)
 
 -- one table changed
 abbrev pub withY : Memory → List ℕ → Memory

@@ -9,6 +9,7 @@ use Rattle.ec20.specs.declared.Outcome.{Outcome}
 use Rattle.ec20.specs.declared.Operand.{Operand}
 use Rattle.ec20.specs.Basics.{pick, one-if}
 use Rattle.ec20.specs.Numbers.{wrap, isZero, isAbove, isBelow, isLowest, rootOf}
+use Rattle.ec20.specs.Mnemonics.{ADD, SUB, DIV, SQT, INC, DEC, VABS, NEG, DADD, DSUB, DMUL, DDIV, DSQT, DINC, DDEC}
 use Rattle.ec20.specs.Bits.{withBit}
 use Rattle.ec20.specs.Memory.{Memory, withSM, storeOf, following}
 
@@ -55,18 +56,18 @@ abbrev pub is : ℕ → ℕ → ℕ → Bool
 is n a b = eqb n a || eqb n b
 
 -- What instruction n comes to, of its sources a and b. "INC, DEC, DINC, DDEC wrap." "DMUL stores the low 32 bits." "Only ADD, SUB, DADD, DSUB,
--- SQT and DSQT touch flags (ours)." The last line is 32 and 48, MOV and DMOV: the source.
+-- SQT and DSQT touch flags (ours)." The last line is MOV and DMOV: the source.
 unfoldable pub computeOf : ℕ → ℕ → ℤ → ℤ → Outcome
 computeOf n h a b =
-    pick (is n 33 49) (sumOf h (a +ℤ b))
-    (pick (is n 34 50) (sumOf h (a -ℤ b))
-    (pick (is n 35 52) (divOf h a b)
-    (pick (is n 36 53) (sqtOf a)
-    (pick (is n 37 54) (value (wrap h (a +ℤ pos 1)))
-    (pick (is n 38 55) (value (wrap h (a -ℤ pos 1)))
-    (pick (eqb n 39) (vabsOf h a)
-    (pick (eqb n 40) (negOf h a)
-    (pick (eqb n 51) (value (wrap h (a *ℤ b)))
+    pick (is n ADD DADD) (sumOf h (a +ℤ b))
+    (pick (is n SUB DSUB) (sumOf h (a -ℤ b))
+    (pick (is n DIV DDIV) (divOf h a b)
+    (pick (is n SQT DSQT) (sqtOf a)
+    (pick (is n INC DINC) (value (wrap h (a +ℤ pos 1)))
+    (pick (is n DEC DDEC) (value (wrap h (a -ℤ pos 1)))
+    (pick (eqb n VABS) (vabsOf h a)
+    (pick (eqb n NEG) (negOf h a)
+    (pick (eqb n DMUL) (value (wrap h (a *ℤ b)))
     (value a)))))))))
 
 -- SM180, SM181, SM182

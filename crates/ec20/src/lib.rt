@@ -3,14 +3,14 @@
 
 // ---- the instruction table
 
-// A place for an operand: its role (specs/Table.antt names them), its width in bits, and how many D words it takes there.
+// A place for an operand: its role (specs/Roles.antt names them), its width in bits, and how many D words it takes there.
 pub struct Place {
     pub role: u8,
     pub width: u8,
     pub extent: u8,
 }
 
-// The row of an instruction number: whether there is one, which form of instruction it makes (specs/Table.antt names the forms), and the
+// The row of an instruction number: whether there is one, which form of instruction it makes (specs/Forms.antt names the forms), and the
 // places of its operands.
 pub struct Row {
     pub known: bool,
@@ -95,16 +95,18 @@ pub enum Found {
     Nowhere,
 }
 
-// What a record does to a search: it is the one, it ends the body searched, or the search goes on so deep in loops inside it.
+// How the code finds a label or a NEXT, 6 and W (specs/Walkers.antt). What a record does to a search: it is the one, it ends the body
+// searched, or the search goes on so deep in loops inside it.
 pub enum Turn {
     Hit,
     Stop,
     On(usize),
 }
 
-// What a record asks of the walker of a sequence: to go on, to enter a loop of so many passes, to leave one, to finish, to refuse.
+// What a record asks of the walker of a sequence: to go on after so many steps, to enter a loop of so many passes, to leave one, to finish,
+// to refuse.
 pub enum Act {
-    Go,
+    Go(usize),
     Enter(usize),
     Leave,
     Finish,

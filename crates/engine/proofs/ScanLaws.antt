@@ -21,10 +21,9 @@ use Rattle.ec20.specs.Devices.{ec20}
 use Rattle.ec20.specs.File.{Records, framed, frameOf, byteAt, recordFrom, recordsFrom, recordsOf}
 use Rattle.ec20.specs.Memory.{Memory, sized}
 use Rattle.ec20.specs.Operands.{isKnown, faultIn, firstBad}
-use Rattle.ec20.specs.Scan.{Scan, scan, runScan, fitting, scanIf, scanFor, scanOf}
+use Rattle.ec20.specs.Scan.{Scan, scan, runScan, fitting, scanFor, scanOf}
 use Rattle.ec20.specs.declared.Frame.{Frame}
 use Rattle.ec20.specs.declared.Frame.the-variants.{Whole}
-use Rattle.ec20.specs.declared.Scanned.{Scanned}
 use Rattle.ec20.specs.declared.Scanned.the-variants.{Refused}
 use Rattle.ec20.specs.declared.Verdict.{Verdict}
 use Rattle.ec20.specs.declared.Verdict.the-variants.{Accepted, Refused as Unfit}
@@ -45,7 +44,7 @@ module _ (f : List ℕ) (e b : ℕ) (c : Memory) where
   unfolding fittingScan fitting
   nine g h = rw (sym g, h) refl
 
-  pub fits : {s : Bool} {o : Scan} {p : Program} → s ≡ sized ec20 c → (s && leb e 32767) ≡ true → p ≡ programOf f → o ≡ runScan p e b c → o ≡ fittingScan f e b c
+  pub fits : {s : Bool} {o : Scan} {p : Program} → s ≡ sized ec20 c → (s && leb e 32767) ≡ true → p ≡ programOf f → o ≡ runScan ec20 p e b c → o ≡ fittingScan f e b c
   unfolding fittingScan fitting
   fits g h r q = q ∙ rw (r, sym g, h) refl
 

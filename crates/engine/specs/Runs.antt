@@ -10,4 +10,4 @@ use Rattle.ec20.specs.declared.Scanned.the-variants.{Refused}
 
 -- a scan of an accepted program: "The scan adds 9."
 unfoldable pub fittingScan : List ℕ → ℕ → ℕ → Memory → Scan
-fittingScan f e budget c = pick (fitting ec20 e c) (runScan (programOf f) e budget c) (scan (Refused 9 0) c)
+fittingScan f e budget c = pick (fitting ec20 e c) (runScan ec20 (programOf f) e budget c) (scan (Refused 9 0) c)

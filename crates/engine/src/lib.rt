@@ -46,19 +46,17 @@ fn prepared_run(
     tv: &mut [i16],
 ) -> Scanned
     requires { ⌜ Held (length (now f)) first count × Known (now f) first count × (e ≤ 32767) ⌝ }
-    ensures { λ r. ⌜ scan r (memory (now (x .entry)) (now (y .exit)) (now (m .exit)) (now (sm .exit)) (now (t .exit)) (now (d .exit)) (now (tv .exit))) ≡ runScan (programIn (recordsFrom (now (f .entry)) first count)) e budget (memory (now (x .entry)) (now (y .entry)) (now (m .entry)) (now (sm .entry)) (now (t .entry)) (now (d .entry)) (now (tv .entry))) ⌝ }
+    ensures { λ r. ⌜ scan r (memory (now (x .entry)) (now (y .exit)) (now (m .exit)) (now (sm .exit)) (now (t .exit)) (now (d .exit)) (now (tv .exit))) ≡ runScan ec20 (programIn (recordsFrom (now (f .entry)) first count)) e budget (memory (now (x .entry)) (now (y .entry)) (now (m .entry)) (now (sm .entry)) (now (t .entry)) (now (d .entry)) (now (tv .entry))) ⌝ }
 {
     let rows = instructions::table();
-    let nexts = jumps::next_places(f, first, count);
-    let places = jumps::label_places(f, first, count);
+    let goes = jumps::prepare(f, first, count);
     bits::put_bit(sm, 0, 1);
     runs::run(
         &rows,
         f,
         first,
         count,
-        &nexts,
-        &places,
+        &goes,
         e,
         budget,
         x,

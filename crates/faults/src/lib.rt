@@ -181,8 +181,8 @@ fn in_work(p: Place, o: Operand) -> bool
     ensures { λ r. ⌜ r ≡ inWork ec20 p o ⌝ }
 {
     ((p.role == 4) | (p.role == 5) | (p.role == 6))
-        & (o.kind == 7)
-        & meets_work(o.value, records::wide(p.extent))
+        & extents::in_d(o)
+        & meets_work(extents::start(o), extents::length(p, o))
 }
 
 // Each operand is as the table allows.

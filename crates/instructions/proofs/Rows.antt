@@ -7,7 +7,8 @@ use mathlib.Core.Path.{_≡_, refl, sym, ap, subst, _∙_}
 use mathlib.Core.List.{List, [], _∷_, map}
 use lib.Dec.{eqb}
 use lib.ListN.{getD, List·getD-map, List·getD-eq-default}
-use Rattle.ec20.specs.Table.{table, rowOf, unknown, place}
+use Rattle.ec20.specs.Table.{table, rowOf, unknown}
+use Rattle.ec20.specs.Roles.{place}
 use Rattle.ec20.specs.declared.Row.{Row}
 use Rattle.ec20.proofs.Tests.{both}
 use Rattle.instructions.specs.Cells.{cells, cellsOf}

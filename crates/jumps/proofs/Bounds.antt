@@ -4,30 +4,24 @@ use mathlib.Core.Path.{_≡_, refl, ap, _∙_}
 use native.Mathlib.Decide.{decLt}
 use native.Mathlib.Omega.{arith}
 use lib.Dec.{eqb, ltb}
-use lib.ListN.{getD, length, length-set}
-use borrow.Author.Tests.{ltb-true, le-ltb}
+use lib.ListN.{getD, length, length-set, replicate}
+use borrow.Author.Tests.{ltb-true}
 use Rattle.bound.proofs.Onward.{Ahead, ahead, acted-on, contact-on, compare-on, join-on, branch-on, word-on}
 use Rattle.ec20.proofs.Tests.{picked}
-use Rattle.ec20.specs.Code.{Program, codeOf, programIn}
-use Rattle.ec20.specs.Control.{controlsOf, nextOf, labelOf, orPast}
-use Rattle.ec20.specs.File.{Records}
+use Rattle.ec20.specs.Code.{Program}
+use Rattle.ec20.specs.Control.{controlsOf, nextOfFor, firstLabel, orPast}
 use Rattle.ec20.specs.Flow.{isOn, gone}
 use Rattle.ec20.specs.Memory.{Memory}
-use Rattle.ec20.specs.Scan.{startWorld}
-use Rattle.ec20.specs.Step.{World, going, forOf, closeOf, jumpOf, execOf, stepOf}
+use Rattle.ec20.specs.Scan.{startState}
+use Rattle.ec20.specs.Step.{World, openLoops, world, going, forOf, closeOf, jumpOf, execOf, stepOf}
 use Rattle.ec20.specs.declared.Instr.{Instr}
 use Rattle.ec20.specs.declared.Instr.the-variants.{Nop, Contact, Compare, Join, Branch, Coil, Timer, For, Next, Jump, Label, End, Word}
 use Rattle.jumps.proofs.Tables.{zeros, put-most}
 use Rattle.jumps.proofs.Within.{next-in, label-in}
 use Rattle.jumps.specs.Sane.{Sane}
 
--- past the last record there is END
-pub end-past : (rs : Records) (k : ℕ) → rs .count ≤ k → programIn rs .code k ≡ End
-unfolding codeOf
-end-past rs k h = rw (le-ltb k (rs .count) h)
-
 module _ (p : Program) where
-  pub sane-start : (c : Memory) → Sane p (startWorld c)
+  pub sane-start : (c : Memory) → Sane p (world c (openLoops (replicate 8 0) (replicate 8 0)) startState)
   sane-start c = record { due = omega arith; room = omega arith; passes = refl; places = refl; backs = λ j. omega (arith, zeros 8 j) }
 
   -- what goes on to the next record
@@ -48,7 +42,7 @@ module _ (p : Program) where
   for-sane : (w : World) (n : ℕ) → w .st .pc < p .count → Sane p w → Sane p (forOf p n w)
   unfolding forOf
   for-sane w n h s =
-      let past : orPast (p .count) (nextOf (controlsOf p) (p .count) (w .st .pc)) ≤ p .count = next-in (controlsOf p) (p .count) (w .st .pc) in
+      let past : orPast (p .count) (nextOfFor (controlsOf p) (p .count) (w .st .pc)) ≤ p .count = next-in (controlsOf p) (p .count) (w .st .pc) in
       picked (Sane p) (eqb n 0) _ _
       (λ _. gone-sane w _ _ (omega arith) (s .room) s)
       (λ _.
@@ -60,14 +54,14 @@ module _ (p : Program) where
         room = omega arith;
         passes = simp length-set (s .passes);
         places = simp length-set (s .places);
-        backs = λ j. put-most (w .back) (w .st .depth) (w .st .pc + 1) j (p .count + 1) (s .backs) (omega arith);
+        backs = λ j. put-most (w .loops .back) (w .st .depth) (w .st .pc + 1) j (p .count + 1) (s .backs) (omega arith);
       })
       (λ _. gone-sane w _ _ (omega arith) (s .room) s))
 
   close-sane : (w : World) → w .st .pc < p .count → Sane p w → Sane p (closeOf w)
   unfolding closeOf
   close-sane w h s =
-      picked (Sane p) (ltb 1 (getD (w .left) (w .st .depth - 1) 0)) _ _
+      picked (Sane p) (ltb 1 (getD (w .loops .left) (w .st .depth - 1) 0)) _ _
       (λ _.
       record {
         due = s .backs (w .st .depth - 1);
@@ -81,7 +75,7 @@ module _ (p : Program) where
   jump-sane : (w : World) (l : ℕ) → w .st .pc < p .count → Sane p w → Sane p (going w (w .mem) (jumpOf p l (w .st)))
   unfolding jumpOf
   jump-sane w l h s =
-      let place : orPast (p .count) (labelOf (controlsOf p) (p .count) l) ≤ p .count = label-in (controlsOf p) (p .count) l in
+      let place : orPast (p .count) (firstLabel (controlsOf p) (p .count) l) ≤ p .count = label-in (controlsOf p) (p .count) l in
       gone-sane w _ _ (picked (λ (k : ℕ). k ≤ p .count + 1) (isOn (w .st)) _ _ (λ _. omega arith) (λ _. omega arith)) (s .room) s
 
   -- each instruction, in the program

@@ -2,4 +2,3 @@ pub mod Laws
 pub mod Within
 pub mod Tables
 pub mod Bounds
-pub mod Due

@@ -9,6 +9,6 @@ use Rattle.ec20.specs.Step.{World}
 pub record Sane (p : Program) (w : World) : Type 0 where
   pub due : w .st .pc ≤ p .count + 1
   pub room : w .st .depth ≤ 8
-  pub passes : length (w .left) ≡ 8
-  pub places : length (w .back) ≡ 8
-  pub backs : (j : ℕ) → getD (w .back) j 0 ≤ p .count + 1
+  pub passes : length (w .loops .left) ≡ 8
+  pub places : length (w .loops .back) ≡ 8
+  pub backs : (j : ℕ) → getD (w .loops .back) j 0 ≤ p .count + 1

@@ -1,11 +1,11 @@
-// Loops and jumps: FOR, NEXT and CJ, and the places they go to, looked up once for a run.
+// Loops and jumps: FOR, NEXT and CJ, and where FOR and CJ go, looked up once for a run.
 ghost use Prim.Native.Nat.{ℕ, _+_, _<_, _≤_, _^_, _-_};
 ghost use Rattle.ec20.specs.Code.{Program, programIn};
-ghost use Rattle.ec20.specs.Control.{controlsOf, nextOf, labelOf, orPast};
+ghost use Rattle.ec20.specs.Control.{controlsOf, nextOfFor, firstLabel, orPast};
 ghost use Rattle.ec20.specs.File.{recordsFrom};
 ghost use Rattle.ec20.specs.Memory.{Memory};
-ghost use Rattle.ec20.specs.Step.{world, forOf, closeOf, jumpOf};
-ghost use Rattle.ec20.specs.declared.Control.the-variants.{Opens};
+ghost use Rattle.ec20.specs.Step.{openLoops, world, forOf, closeOf, jumpOf};
+ghost use Rattle.jumps.specs.Prepared.{goesTo, Prepared};
 ghost use Rattle.labels.specs.Places.{Places};
 ghost use Rattle.records.specs.Ranges.{Held};
 ghost use lib.ListN.{getD, length};
@@ -18,20 +18,20 @@ use labels::Want;
 // FOR 0 goes to the record after its NEXT; else a loop of so many passes is opened. The ninth, which 6 refuses, is passed by.
 pub fn open_loop(
     passes: usize,
-    nexts: &[usize; 2000],
+    goes: &[usize; 2000],
     left: &mut [usize; 8],
     back: &mut [usize; 8],
     s: Machine,
 ) -> Machine
     requires { ⌜ s .depth ≤ 8 ⌝ }
     requires { ⌜ s .pc < 2000 ⌝ }
-    requires { ⌜ getD (now nexts) (s .pc) 0 < 2 ^ 63 ⌝ }
-    ensures { λ r. ⌜ ((p : Program) (c : Memory) → getD (now (nexts .entry)) (s .pc) 0 ≡ orPast (p .count) (nextOf (controlsOf p) (p .count) (s .pc)) → world c (now (left .exit)) (now (back .exit)) r ≡ forOf p passes (world c (now (left .entry)) (now (back .entry)) s)) ⌝ }
+    requires { ⌜ getD (now goes) (s .pc) 0 < 2 ^ 63 ⌝ }
+    ensures { λ r. ⌜ ((p : Program) (c : Memory) → getD (now (goes .entry)) (s .pc) 0 ≡ orPast (p .count) (nextOfFor (controlsOf p) (p .count) (s .pc)) → world c (openLoops (now (left .exit)) (now (back .exit))) r ≡ forOf p passes (world c (openLoops (now (left .entry)) (now (back .entry))) s)) ⌝ }
 {
     let pc = s.pc;
     let k = s.depth;
     if passes == 0 {
-        let close = nexts[pc];
+        let close = goes[pc];
         return flow::go_to(s, close + 1, k);
     }
     if k < 8 {
@@ -46,7 +46,7 @@ pub fn open_loop(
 pub fn close_loop(left: &mut [usize; 8], back: &[usize; 8], s: Machine) -> Machine
     requires { ⌜ s .depth ≤ 8 ⌝ }
     requires { ⌜ s .pc < 2 ^ 63 ⌝ }
-    ensures { λ r. ⌜ ((c : Memory) → world c (now (left .exit)) (now (back .entry)) r ≡ closeOf (world c (now (left .entry)) (now (back .entry)) s)) ⌝ }
+    ensures { λ r. ⌜ ((c : Memory) → world c (openLoops (now (left .exit)) (now (back .entry))) r ≡ closeOf (world c (openLoops (now (left .entry)) (now (back .entry))) s)) ⌝ }
 {
     let inner = innermost(s.depth);
     let passes = left[inner];
@@ -74,91 +74,56 @@ fn or_past(count: usize, x: Found) -> usize
     }
 }
 
-// A label's place: the first 128 are looked up, any other is searched.
-fn place(f: &[u8], first: usize, count: usize, places: &[usize; 128], l: usize) -> usize
-    requires { ⌜ Held (length (now f)) first count ⌝ }
-    ensures { λ r. ⌜ (((m : ℕ) → m < 128 → getD (now (places .entry)) m 0 ≡ orPast count (labelOf (controlsOf (programIn (recordsFrom (now (f .entry)) first count))) count m)) → r ≡ orPast count (labelOf (controlsOf (programIn (recordsFrom (now (f .entry)) first count))) count l)) ⌝ }
-{
-    if l < 128 {
-        return places[l];
-    }
-    or_past(count, labels::label(f, first, count, l))
-}
-
 // CJ goes, with flow, to its label.
-pub fn jump(
-    f: &[u8],
-    first: usize,
-    count: usize,
-    places: &[usize; 128],
-    l: usize,
-    s: Machine,
-) -> Machine
-    requires { ⌜ Held (length (now f)) first count ⌝ }
-    requires { ⌜ s .pc < 2 ^ 63 ⌝ }
-    ensures { λ r. ⌜ (((m : ℕ) → m < 128 → getD (now (places .entry)) m 0 ≡ orPast count (labelOf (controlsOf (programIn (recordsFrom (now (f .entry)) first count))) count m)) → r ≡ jumpOf (programIn (recordsFrom (now (f .entry)) first count)) l s) ⌝ }
+pub fn jump(goes: &[usize; 2000], s: Machine) -> Machine
+    requires { ⌜ s .pc < 2000 ⌝ }
+    ensures { λ r. ⌜ ((p : Program) (l : ℕ) → getD (now (goes .entry)) (s .pc) 0 ≡ orPast (p .count) (firstLabel (controlsOf p) (p .count) l) → r ≡ jumpOf p l s) ⌝ }
 {
+    let pc = s.pc;
     if flow::is_on(s) {
-        let k = place(f, first, count, places, l);
-        return flow::go_to(s, k, s.depth);
+        return flow::go_to(s, goes[pc], s.depth);
     }
-    flow::go_to(s, s.pc + 1, s.depth)
+    flow::go_to(s, pc + 1, s.depth)
 }
 
-// Of a FOR the place of its NEXT, past the program if there is none; of any other record nothing is looked up.
-fn next_place(f: &[u8], first: usize, count: usize, k: usize) -> usize
+// Where record k goes: a FOR to its NEXT, a CJ to its label, whose place is looked up; past the program if there is none. Any other has 0.
+fn goes_to(f: &[u8], first: usize, count: usize, places: &[usize; 128], k: usize) -> usize
     requires { ⌜ Held (length (now f)) first count ⌝ }
+    requires { ⌜ Places (controlsOf (programIn (recordsFrom (now f) first count))) count (now places) ⌝ }
     requires { ⌜ k < count ⌝ }
-    ensures { λ r. ⌜ ((n : ℕ) → controlsOf (programIn (recordsFrom (now (f .entry)) first count)) k ≡ Opens n → r ≡ orPast count (nextOf (controlsOf (programIn (recordsFrom (now (f .entry)) first count))) count k)) ⌝ }
-    ensures { λ r. ⌜ r ≤ count ⌝ }
+    ensures { λ r. ⌜ r ≡ goesTo (controlsOf (programIn (recordsFrom (now (f .entry)) first count))) count k (controlsOf (programIn (recordsFrom (now (f .entry)) first count)) k) ⌝ }
 {
     match decode::control_at(f, first, count, k) {
         Control::Opens(_) => or_past(count, labels::find(f, first, count, k + 1, Want::Close)),
+        Control::Jumps(l) => or_past(count, labels::place(f, first, count, places, l)),
         Control::Plain => 0,
         Control::Closes => 0,
-        Control::Jumps(_) => 0,
         Control::Marks(_) => 0,
         Control::Ends => 0,
     }
 }
 
-// Looked up once for a run: of each FOR the place of its NEXT. Each is at most the count, so that one more fits.
-pub fn next_places(f: &[u8], first: usize, count: usize) -> [usize; 2000]
+// The same of each record, the places of the labels being known.
+fn looked_up(places: &[usize; 128], f: &[u8], first: usize, count: usize) -> [usize; 2000]
     requires { ⌜ Held (length (now f)) first count ⌝ }
-    ensures { λ r. ⌜ ((k n : ℕ) → k < count → controlsOf (programIn (recordsFrom (now (f .entry)) first count)) k ≡ Opens n → getD r k 0 ≡ orPast count (nextOf (controlsOf (programIn (recordsFrom (now (f .entry)) first count))) count k)) ⌝ }
-    ensures { λ r. ⌜ ((k : ℕ) → getD r k 0 ≤ count) ⌝ }
+    requires { ⌜ Places (controlsOf (programIn (recordsFrom (now f) first count))) count (now places) ⌝ }
+    ensures { λ r. ⌜ Prepared (controlsOf (programIn (recordsFrom (now (f .entry)) first count))) count r ⌝ }
 {
-    let mut nexts = [0usize; 2000];
+    let mut goes = [0usize; 2000];
     let mut k = 0;
     while k < count {
-        let v = next_place(f, first, count, k);
-        nexts[k] = v;
+        let v = goes_to(f, first, count, places, k);
+        goes[k] = v;
         k += 1;
     }
-    nexts
+    goes
 }
 
-// The places of the 128 labels as a run looks them up, from those that one walk over the records found.
-fn looked_up(table: &[usize; 128], f: &[u8], first: usize, count: usize) -> [usize; 128]
+// Looked up once for a run: where each record goes.
+pub fn prepare(f: &[u8], first: usize, count: usize) -> [usize; 2000]
     requires { ⌜ Held (length (now f)) first count ⌝ }
-    requires { ⌜ Places (controlsOf (programIn (recordsFrom (now f) first count))) count (now table) ⌝ }
-    ensures { λ r. ⌜ ((l : ℕ) → l < 128 → getD r l 0 ≡ orPast count (labelOf (controlsOf (programIn (recordsFrom (now (f .entry)) first count))) count l)) ⌝ }
+    ensures { λ r. ⌜ Prepared (controlsOf (programIn (recordsFrom (now (f .entry)) first count))) count r ⌝ }
 {
-    let mut places = [0usize; 128];
-    let mut l = 0;
-    while l < 128 {
-        let v = or_past(count, labels::place(f, first, count, table, l));
-        places[l] = v;
-        l += 1;
-    }
-    places
-}
-
-// The same of each of the 128 labels: its place, past the program if there is none.
-pub fn label_places(f: &[u8], first: usize, count: usize) -> [usize; 128]
-    requires { ⌜ Held (length (now f)) first count ⌝ }
-    ensures { λ r. ⌜ ((l : ℕ) → l < 128 → getD r l 0 ≡ orPast count (labelOf (controlsOf (programIn (recordsFrom (now (f .entry)) first count))) count l)) ⌝ }
-{
-    let table = labels::places(f, first, count);
-    looked_up(&table, f, first, count)
+    let places = labels::places(f, first, count);
+    looked_up(&places, f, first, count)
 }

@@ -5,8 +5,10 @@ use mathlib.Core.Path.{_≡_, refl, sym, ap, _∙_}
 use native.Mathlib.Omega.{arith}
 use Prim.Native.Nat.{ℕ, suc, _+_, _-_, _<_, _≤_}
 use Rattle.ec20.proofs.Tests.{picked}
+use Rattle.ec20.proofs.Walkers.{search-turn}
 use Rattle.ec20.specs.Basics.{pick, firstAt}
-use Rattle.ec20.specs.Control.{Controls, closes, marks, shiftOf, turnOf, byTurn, findOf, findFrom}
+use Rattle.ec20.specs.Control.{Controls, closes, marks, searchBody, foundInBody}
+use Rattle.ec20.specs.Walkers.{shiftOf, turnOf, byTurn}
 use Rattle.ec20.specs.declared.Control.the-variants.{Plain, Opens, Closes, Jumps, Marks, Ends}
 use Rattle.ec20.specs.declared.Control.{Control}
 use Rattle.ec20.specs.declared.Found.the-variants.{At, Nowhere}
@@ -19,28 +21,27 @@ use Rattle.labels.specs.declared.Want.the-variants.{Close, Place}
 
 -- the search from record i on, which is d deep, by what the record does to it
 module _ (want : Control → Bool) (code : Controls) (i d n : ℕ) where
-  step : i < n → findFrom code n want i d ≡ byTurn (turnOf (want (code i)) (code i) d) i (λ j. findFrom code n want (i + 1) j)
-  unfolding findOf
-  step h = let e : n - i ≡ suc (n - (i + 1)) = omega arith in ap (λ (k : ℕ). findOf want code k i d) e
+  step : i < n → foundInBody code n want d i ≡ byTurn (turnOf (want (code i)) (code i) d) i (λ j. foundInBody code n want j (i + 1))
+  step h = let e : n - i ≡ suc (n - (i + 1)) = omega arith in ap (λ (k : ℕ). searchBody code want d i k) e ∙ search-turn code want d i (n - (i + 1))
 
   -- record i is the one
-  pub hit : {r : Turn} {x : Control} → i < n → x ≡ code i → r ≡ turnOf (want x) x d → r ≡ Hit → At i ≡ findFrom code n want i d
+  pub hit : {r : Turn} {x : Control} → i < n → x ≡ code i → r ≡ turnOf (want x) x d → r ≡ Hit → At i ≡ foundInBody code n want d i
   unfolding byTurn
   hit h q e g = let o : turnOf (want (code i)) (code i) d ≡ Hit = sym (rw q at e) ∙ g in sym (step h ∙ rw o)
 
   -- record i ends the body
-  pub stop : {r : Turn} {x : Control} → i < n → x ≡ code i → r ≡ turnOf (want x) x d → r ≡ Stop → Nowhere ≡ findFrom code n want i d
+  pub stop : {r : Turn} {x : Control} → i < n → x ≡ code i → r ≡ turnOf (want x) x d → r ≡ Stop → Nowhere ≡ foundInBody code n want d i
   unfolding byTurn
   stop h q e g = let o : turnOf (want (code i)) (code i) d ≡ Stop = sym (rw q at e) ∙ g in sym (step h ∙ rw o)
 
   -- the search goes on, j deep
-  pub on : {r : Turn} {x : Control} {j : ℕ} → i < n → x ≡ code i → r ≡ turnOf (want x) x d → r ≡ On j → findFrom code n want i d ≡ findFrom code n want (i + 1) j
+  pub on : {r : Turn} {x : Control} {j : ℕ} → i < n → x ≡ code i → r ≡ turnOf (want x) x d → r ≡ On j → foundInBody code n want d i ≡ foundInBody code n want j (i + 1)
   unfolding byTurn
   on {j = j} h q e g = let o : turnOf (want (code i)) (code i) d ≡ On j = sym (rw q at e) ∙ g in step h ∙ rw o
 
   -- no record is left
-  pub over : n ≤ i → Nowhere ≡ findFrom code n want i d
-  unfolding findOf
+  pub over : n ≤ i → Nowhere ≡ foundInBody code n want d i
+  unfolding searchBody
   over h = let e : n - i ≡ 0 = omega arith in rw e
 
 -- a record that no search looks for: both kinds of search pass it
@@ -94,20 +95,20 @@ near b i d {j = j} e g = let o : turnOf b i d ≡ On j = sym e ∙ g in rw o at 
 
 -- the first record from i on that passes a test
 module _ (test : ℕ → Bool) (i n : ℕ) where
-  first-step : i < n → firstAt test (n - i) i ≡ pick (test i) (At i) (firstAt test (n - (i + 1)) (i + 1))
+  first-step : i < n → firstAt test i (n - i) ≡ pick (test i) (At i) (firstAt test (i + 1) (n - (i + 1)))
   unfolding firstAt
-  first-step h = let e : n - i ≡ suc (n - (i + 1)) = omega arith in ap (λ (k : ℕ). firstAt test k i) e
+  first-step h = let e : n - i ≡ suc (n - (i + 1)) = omega arith in ap (λ (k : ℕ). firstAt test i k) e
 
   -- record i passes
-  pub passes : {b : Bool} → i < n → b ≡ test i → b ≡ true → At i ≡ firstAt test (n - i) i
+  pub passes : {b : Bool} → i < n → b ≡ test i → b ≡ true → At i ≡ firstAt test i (n - i)
   passes h e g = let o : test i ≡ true = sym e ∙ g in sym (first-step h ∙ rw o)
 
   -- it does not: on to the next
-  pub fails : {b : Bool} → i < n → b ≡ test i → b ≡ false → firstAt test (n - i) i ≡ firstAt test (n - (i + 1)) (i + 1)
+  pub fails : {b : Bool} → i < n → b ≡ test i → b ≡ false → firstAt test i (n - i) ≡ firstAt test (i + 1) (n - (i + 1))
   fails h e g = let o : test i ≡ false = sym e ∙ g in first-step h ∙ rw o
 
   -- no record is left
-  pub none : n ≤ i → Nowhere ≡ firstAt test (n - i) i
+  pub none : n ≤ i → Nowhere ≡ firstAt test i (n - i)
   unfolding firstAt
   none h = let e : n - i ≡ 0 = omega arith in rw e
 

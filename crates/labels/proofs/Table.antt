@@ -11,7 +11,7 @@ use lib.Dec.{eqb}
 use lib.ListN.{getD, length, set, replicate, length-set, length-replicate}
 use lib.Seq.{getD-set-same, getD-set-other, ext-getD}
 use Rattle.ec20.specs.Basics.{firstAt}
-use Rattle.ec20.specs.Control.{Controls, marks, labelOf}
+use Rattle.ec20.specs.Control.{Controls, marks, firstLabel}
 use Rattle.ec20.specs.Labels.{labelFault}
 use Rattle.ec20.specs.declared.Control.{Control}
 use Rattle.ec20.specs.declared.Control.the-variants.{Marks}
@@ -39,7 +39,7 @@ told-none Nowhere t e h = refl
 pub record Filled (code : Controls) (count k : ℕ) (t : List ℕ) : Type 0 where
   pub size : length t ≡ 128
   pub below : k ≤ count
-  pub told : (l : ℕ) → l < 128 → getD t l 0 ≡ oneMore (firstAt (λ j. marks l (code j)) (count - k) k)
+  pub told : (l : ℕ) → l < 128 → getD t l 0 ≡ oneMore (firstAt (λ j. marks l (code j)) k (count - k))
 
 zeros : (n j : ℕ) → getD {A = ℕ} (replicate n 0) j 0 ≡ 0
 zeros zero j = refl
@@ -60,19 +60,19 @@ module _ (code : Controls) (count k j s : ℕ) (t : List ℕ) (f : Filled code c
   within = omega (arith, f .below)
 
   -- a label that record j sets
-  set-there : (l : ℕ) → l < 128 → s ≡ l → k ≡ oneMore (firstAt (λ i. marks l (code i)) (count - j) j)
+  set-there : (l : ℕ) → l < 128 → s ≡ l → k ≡ oneMore (firstAt (λ i. marks l (code i)) j (count - j))
   unfolding oneMore
   set-there l h e =
       sym before ∙ ap oneMore (passes (λ i. marks l (code i)) j count {b = marks l (code j)} within refl (slot l h ∙ eq-eqb _ _ e))
 
   -- a label that it does not set
-  set-later : (l : ℕ) → l < 128 → (s ≡ l → ⊥) → getD t l 0 ≡ oneMore (firstAt (λ i. marks l (code i)) (count - j) j)
+  set-later : (l : ℕ) → l < 128 → (s ≡ l → ⊥) → getD t l 0 ≡ oneMore (firstAt (λ i. marks l (code i)) j (count - j))
   set-later l h e =
       f .told l h
-      ∙ (subst (λ (i : ℕ). oneMore (firstAt (λ i. marks l (code i)) (count - k) k) ≡ oneMore (firstAt (λ i. marks l (code i)) (count - i) i)) (sym before) refl
+      ∙ (subst (λ (i : ℕ). oneMore (firstAt (λ i. marks l (code i)) k (count - k)) ≡ oneMore (firstAt (λ i. marks l (code i)) i (count - i))) (sym before) refl
       ∙ sym (ap oneMore (fails (λ i. marks l (code i)) j count {b = marks l (code j)} within refl (slot l h ∙ ne-eqb _ _ e))))
 
-  more : s < 128 → (l : ℕ) → l < 128 → getD (set t s k) l 0 ≡ oneMore (firstAt (λ i. marks l (code i)) (count - j) j)
+  more : s < 128 → (l : ℕ) → l < 128 → getD (set t s k) l 0 ≡ oneMore (firstAt (λ i. marks l (code i)) j (count - j))
   more b l h =
       elim (ℕ-discrete s l) [
         | yes e ↦ subst (λ (i : ℕ). getD (set t s k) i 0 ≡ k) e (getD-set-same t s k 0 (omega (arith, f .size))) ∙ set-there l h e
@@ -89,7 +89,7 @@ module _ (code : Controls) (count k j s : ℕ) (t : List ℕ) (f : Filled code c
 pub filled-all : (code : Controls) (count k : ℕ) (t : List ℕ) → Filled code count k t → k ≡ 0 → Places code count t
 unfolding Places
 filled-all code count k t f e l h =
-    f .told l h ∙ subst (λ (i : ℕ). oneMore (firstAt (λ j. marks l (code j)) (count - i) i) ≡ oneMore (firstAt (λ j. marks l (code j)) count 0)) (sym e) (rw sub-zero refl)
+    f .told l h ∙ subst (λ (i : ℕ). oneMore (firstAt (λ j. marks l (code j)) i (count - i)) ≡ oneMore (firstAt (λ j. marks l (code j)) 0 count)) (sym e) (rw sub-zero refl)
 
 -- the places fix the table: two of 128 entries that tell them are equal
 pub one-table : (code : Controls) (count : ℕ) (s t : List ℕ) → length s ≡ 128 → length t ≡ 128 → Places code count s → Places code count t → s ≡ t

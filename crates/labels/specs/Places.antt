@@ -3,7 +3,7 @@ use Prim.Native.Nat.{ℕ, _+_, _<_}
 use mathlib.Core.List.{List}
 use mathlib.Core.Path.{_≡_}
 use lib.ListN.{getD}
-use Rattle.ec20.specs.Control.{Controls, labelOf}
+use Rattle.ec20.specs.Control.{Controls, firstLabel}
 use Rattle.ec20.specs.declared.Found.{Found}
 use Rattle.ec20.specs.declared.Found.the-variants.{At, Nowhere}
 
@@ -12,4 +12,4 @@ oneMore (At k) = k + 1
 oneMore Nowhere = 0
 
 unfoldable pub Places : Controls → ℕ → List ℕ → Type 0
-Places code count t = (l : ℕ) → l < 128 → getD t l 0 ≡ oneMore (labelOf code count l)
+Places code count t = (l : ℕ) → l < 128 → getD t l 0 ≡ oneMore (firstLabel code count l)

@@ -2,7 +2,8 @@
 ghost use Prim.Native.Nat.{ℕ, _+_, _-_, _<_, _^_};
 ghost use Rattle.ec20.specs.Basics.{firstAt, refusedAt};
 ghost use Rattle.ec20.specs.Code.{programIn};
-ghost use Rattle.ec20.specs.Control.{controlsOf, turnOf, marks, findFrom, labelOf};
+ghost use Rattle.ec20.specs.Control.{controlsOf, marks, foundInBody, firstLabel};
+ghost use Rattle.ec20.specs.Walkers.{turnOf};
 ghost use Rattle.ec20.specs.File.{recordsFrom};
 ghost use Rattle.ec20.specs.Labels.{same, labelFault, firstUnlabelled};
 ghost use Rattle.ec20.specs.declared.Control.the-variants.{Closes, Jumps, Marks};
@@ -82,7 +83,7 @@ fn turn(i: Control, w: Want, d: usize) -> Turn
 // The first wanted record from record `from` on that stands directly in the body there.
 pub fn find(f: &[u8], first: usize, count: usize, from: usize, w: Want) -> Found
     requires { ⌜ Held (length (now f)) first count ⌝ }
-    ensures { λ r. ⌜ r ≡ findFrom (controlsOf (programIn (recordsFrom (now (f .entry)) first count))) count (wantOf w) from 0 ⌝ }
+    ensures { λ r. ⌜ r ≡ foundInBody (controlsOf (programIn (recordsFrom (now (f .entry)) first count))) count (wantOf w) 0 from ⌝ }
 {
     let mut k = from;
     let mut d: usize = 0;
@@ -102,7 +103,7 @@ pub fn find(f: &[u8], first: usize, count: usize, from: usize, w: Want) -> Found
 // A label's place: its first LBL.
 pub fn label(f: &[u8], first: usize, count: usize, l: usize) -> Found
     requires { ⌜ Held (length (now f)) first count ⌝ }
-    ensures { λ r. ⌜ r ≡ labelOf (controlsOf (programIn (recordsFrom (now (f .entry)) first count))) count l ⌝ }
+    ensures { λ r. ⌜ r ≡ firstLabel (controlsOf (programIn (recordsFrom (now (f .entry)) first count))) count l ⌝ }
 {
     let mut k = 0;
     while k < count {
@@ -167,7 +168,7 @@ pub fn places(f: &[u8], first: usize, count: usize) -> [usize; 128]
 pub fn place(f: &[u8], first: usize, count: usize, table: &[usize; 128], l: usize) -> Found
     requires { ⌜ Held (length (now f)) first count ⌝ }
     requires { ⌜ Places (controlsOf (programIn (recordsFrom (now f) first count))) count (now table) ⌝ }
-    ensures { λ r. ⌜ r ≡ labelOf (controlsOf (programIn (recordsFrom (now (f .entry)) first count))) count l ⌝ }
+    ensures { λ r. ⌜ r ≡ firstLabel (controlsOf (programIn (recordsFrom (now (f .entry)) first count))) count l ⌝ }
 {
     if l < 128 {
         let t = table[l];
@@ -237,7 +238,7 @@ fn labelled(f: &[u8], first: usize, count: usize, k: usize) -> bool
 // The first record that sets a label or jumps to one, past the program if there is none: the judgement from there is the whole judgement.
 fn first_labelled(f: &[u8], first: usize, count: usize) -> usize
     requires { ⌜ Held (length (now f)) first count ⌝ }
-    ensures { λ r. ⌜ firstUnlabelled (controlsOf (programIn (recordsFrom (now (f .entry)) first count))) count ≡ refusedAt 7 (firstAt (λ j. labelFault (controlsOf (programIn (recordsFrom (now (f .entry)) first count))) count j ((controlsOf (programIn (recordsFrom (now (f .entry)) first count))) j)) (count - r) r) ⌝ }
+    ensures { λ r. ⌜ firstUnlabelled (controlsOf (programIn (recordsFrom (now (f .entry)) first count))) count ≡ refusedAt 7 (firstAt (λ j. labelFault (controlsOf (programIn (recordsFrom (now (f .entry)) first count))) count j ((controlsOf (programIn (recordsFrom (now (f .entry)) first count))) j)) r (count - r)) ⌝ }
 {
     let mut k = 0;
     while k < count {
@@ -253,7 +254,7 @@ fn first_labelled(f: &[u8], first: usize, count: usize) -> usize
 fn first_from(f: &[u8], first: usize, count: usize, table: &[usize; 128], from: usize) -> Judged
     requires { ⌜ Held (length (now f)) first count ⌝ }
     requires { ⌜ Places (controlsOf (programIn (recordsFrom (now f) first count))) count (now table) ⌝ }
-    ensures { λ r. ⌜ r ≡ refusedAt 7 (firstAt (λ j. labelFault (controlsOf (programIn (recordsFrom (now (f .entry)) first count))) count j ((controlsOf (programIn (recordsFrom (now (f .entry)) first count))) j)) (count - from) from) ⌝ }
+    ensures { λ r. ⌜ r ≡ refusedAt 7 (firstAt (λ j. labelFault (controlsOf (programIn (recordsFrom (now (f .entry)) first count))) count j ((controlsOf (programIn (recordsFrom (now (f .entry)) first count))) j)) from (count - from)) ⌝ }
 {
     let mut k = from;
     while k < count {

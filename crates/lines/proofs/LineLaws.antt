@@ -6,15 +6,15 @@ use mathlib.Core.Path.{_≡_, refl, sym, ap, ap₂, _∙_}
 use native.Mathlib.Decide.{decLt, decLe}
 use native.Mathlib.Omega.{arith}
 use lib.Dec.{ltb, leb}
-use borrow.Author.Tests.{ltb-true, ltb-false, leb-true, leb-false, eqb-true, eq-eqb, not-true}
+use borrow.Author.Tests.{ltb-true, ltb-false, leb-true, leb-false, not-true}
 use Rattle.bound.proofs.First.{first-at, no-first}
 use Rattle.ec20.proofs.Ranges.{is-meets, common as shared, common-meets, inside-yes, is-inside, one-out}
 use Rattle.ec20.proofs.Tests.{both, differ, picked, one-fails, is-false}
 use Rattle.ec20.specs.Basics.{firstAt, refusedAt}
-use Rattle.ec20.specs.Devices.{Device, kindD, meets, inside, meetsWork}
+use Rattle.ec20.specs.Devices.{Device, meets, inside, meetsWork}
 use Rattle.ec20.specs.File.{Records}
 use Rattle.ec20.specs.Move.{Block, Pool, blockFault, poolFault, blockWork, touches, partly, splitFault}
-use Rattle.ec20.specs.Operands.{kindIs}
+use Rattle.ec20.specs.Operands.{inD, startOf, extentOf}
 use Rattle.ec20.specs.UseMap.{recordHas}
 use Rattle.ec20.specs.declared.Found.{Found}
 use Rattle.ec20.specs.declared.Found.the-variants.{At, Nowhere}
@@ -95,19 +95,18 @@ judged-12 v b h =
 
 module _ (b : Block) (p : Place) (o : Operand) where
   abbrev a : ℕ
-  a = o .value
+  a = startOf o
 
   abbrev n : ℕ
-  n = p .extent
+  n = extentOf p o
 
   -- partly in the block: a word of the extent that is in it, and one that is not
   pub partly-words : 0 < b .length → partly b p o ≡ true
       → (i : ℕ) × (j : ℕ) × Extent p o i × In b i × Extent p o j × (In b j → ⊥)
   unfolding partly touches
   partly-words some e =
-      let x = both (kindIs kindD o && meets a n (b .start) (b .length)) (not (inside a n (b .start) (b .length))) e in
-      let y = both (kindIs kindD o) (meets a n (b .start) (b .length)) (x .0) in
-      let k : o .kind ≡ kindD = eqb-true _ _ (y .0) in
+      let x = both (inD o && meets a n (b .start) (b .length)) (not (inside a n (b .start) (b .length))) e in
+      let y = both (inD o) (meets a n (b .start) (b .length)) (x .0) in
       let z = is-meets a n (b .start) (b .length) (y .1) in
       let lo : a < b .start + b .length = z .0 in
       let hi : b .start < a + n = z .1 in
@@ -117,9 +116,9 @@ module _ (b : Block) (p : Place) (o : Operand) where
             let d = one-out a n (b .start) (b .length) g (not-true _ (x .1)) in (
               c .0,
               d .0,
-              record { in-D = k; from = c .1; to = c .2 },
+              record { in-D = y .0; from = c .1; to = c .2 },
               record { from = c .3; to = c .4 },
-              record { in-D = k; from = d .1; to = d .2 },
+              record { in-D = y .0; from = d .1; to = d .2 },
               λ h. d .3 (h .from) (h .to),
             )
         | no g ↦ differ (sym (inside-yes a n (b .start) (b .length) (omega arith) (omega arith)) ∙ not-true _ (x .1))
@@ -128,7 +127,7 @@ module _ (b : Block) (p : Place) (o : Operand) where
   pub words-partly : (i j : ℕ) → Extent p o i → In b i → Extent p o j → (In b j → ⊥) → partly b p o ≡ true
   unfolding partly touches
   words-partly i j x y z out =
-      ap₂ _&&_ (ap₂ _&&_ (eq-eqb _ _ (x .in-D)) (common-meets a n (b .start) (b .length) i (x .from) (x .to) (y .from) (y .to)))
+      ap₂ _&&_ (ap₂ _&&_ (x .in-D) (common-meets a n (b .start) (b .length) i (x .from) (x .to) (y .from) (y .to)))
       (ap not (is-false (inside a n (b .start) (b .length))
       (λ e. let h = is-inside a n (b .start) (b .length) e in out (record { from = omega (arith, h .0, z .from); to = omega (arith, h .1, z .to) }))))
 
@@ -144,9 +143,9 @@ module _ (b : Block) (r : Rec) where
 
 pub judged-13 : (rs : Records) (b : Block) → 0 < b .length → Judges 13 (rs .count) (λ j. Line13 b (rs .at j)) (splitFault rs b)
 unfolding splitFault
-judged-13 rs b some = go (firstAt (λ (j : ℕ). recordHas (partly b) (rs .at j)) (rs .count) 0) refl
+judged-13 rs b some = go (firstAt (λ (j : ℕ). recordHas (partly b) (rs .at j)) 0 (rs .count)) refl
   where
-    go : (x : Found) → firstAt (λ (j : ℕ). recordHas (partly b) (rs .at j)) (rs .count) 0 ≡ x → Judges 13 (rs .count) (λ j. Line13 b (rs .at j)) (refusedAt 13 x)
+    go : (x : Found) → firstAt (λ (j : ℕ). recordHas (partly b) (rs .at j)) 0 (rs .count) ≡ x → Judges 13 (rs .count) (λ j. Line13 b (rs .at j)) (refusedAt 13 x)
     go (At k) e =
         let f = first-at (λ (j : ℕ). recordHas (partly b) (rs .at j)) (rs .count) 0 k e in
         (refl, record { inside = omega (arith, f .high); holds = to-line b (rs .at k) some (f .passes); before = λ j l h. differ (sym (from-line b (rs .at j) h) ∙ f .none j zero-le l) })

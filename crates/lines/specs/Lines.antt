@@ -1,8 +1,10 @@
 -- The mover's lines of the table of refusals, 10 to 13, word by word.
 use Prim.Native.Nat.{ℕ, _+_, _<_, _≤_}
+use mathlib.Core.Bool.{true}
 use mathlib.Core.Path.{_≡_}
-use Rattle.ec20.specs.Devices.{Device, kindD}
+use Rattle.ec20.specs.Devices.{Device}
 use Rattle.ec20.specs.Move.{Block, Pool}
+use Rattle.ec20.specs.Operands.{inD, startOf, extentOf}
 use Rattle.ec20.specs.declared.Operand.{Operand}
 use Rattle.ec20.specs.declared.Place.{Place}
 use Rattle.ec20.specs.declared.Rec.{Rec}
@@ -29,9 +31,9 @@ pub data Line12 (v : Device) (b : Block) : Type 0 where
 
 -- word i is one of the operand's extent, at its place
 pub record Extent (p : Place) (o : Operand) (i : ℕ) : Type 0 where
-  pub in-D : o .kind ≡ kindD
-  pub from : o .value ≤ i
-  pub to : i < o .value + p .extent
+  pub in-D : inD o ≡ true
+  pub from : startOf o ≤ i
+  pub to : i < startOf o + extentOf p o
 
 -- 13: "an operand's extent is partly in the block": a word of it is, and a word of it is not
 pub data Line13 (b : Block) (r : Rec) : Type 0 where

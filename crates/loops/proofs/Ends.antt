@@ -13,11 +13,12 @@ use Rattle.ec20.specs.declared.Act.the-variants.{Go, Enter, Leave, Finish, Refu
 use Rattle.ec20.specs.declared.Walked.{Walked}
 use Rattle.ec20.specs.declared.Walked.the-variants.{Done, Bad}
 use Rattle.ec20.specs.Control.{Controls}
-use Rattle.ec20.specs.Loops.{lastAct, midAct, actOf, plus, follow, byAct, sequenceOf}
+use Rattle.ec20.specs.Walkers.{lastAct, midAct, actOf, plus, follow, byAct, sequenceOf}
+use Rattle.loops.specs.Capped.{cap}
 
--- where each act is met
+-- where each act is met, and that going on takes no more steps than the cap
 unfoldable pub Fit : ℕ → ℕ → ℕ → Act → Type 0
-Fit count k d Go = k + 1 < count
+Fit count k d (Go s) = (k + 1 < count) × (s ≤ cap)
 Fit count k d (Enter n) = (k + 1 < count) × (d < 8)
 Fit count k d Leave = k + 1 < count
 Fit count k d Finish = d ≡ 0
@@ -35,13 +36,13 @@ last-fit count k d Ends =
 
 mid-fit : (count k d : ℕ) (x : Control) → k + 1 < count → Fit count k d (midAct x d)
 unfolding Fit midAct
-mid-fit count k d Plain h = h
+mid-fit count k d Plain h = (h, omega arith)
 mid-fit count k d (Opens n) h =
     dite (decLt d 8) (λ g. rw (lt-ltb d 8 g) (h, g)) (λ g. rw (le-ltb d 8 (omega arith)) tt)
 mid-fit count k d Closes h =
     dite (decLt 0 d) (λ g. rw (lt-ltb 0 d g) h) (λ g. rw (le-ltb 0 d (omega arith)) tt)
-mid-fit count k d (Jumps l) h = h
-mid-fit count k d (Marks l) h = h
+mid-fit count k d (Jumps l) h = (h, omega arith)
+mid-fit count k d (Marks l) h = (h, omega arith)
 mid-fit count k d Ends h = tt
 
 pub fit : (code : Controls) (count k d : ℕ) → k < count → Fit count k d (actOf code count k d)
@@ -70,7 +71,8 @@ ended-follow count k d n (Bad b) after e h = tt
 
 ended-act : (count k d : ℕ) (a : Act) (walk : ℕ → ℕ → Walked) → k < count → Fit count k d a → ((m j : ℕ) → m < count → Ended count m j (walk m j)) → Ended count k d (byAct a k d walk)
 unfolding Ended Fit byAct
-ended-act count k d Go walk i h w = ended-plus count k (k + 1) d 1 (walk (k + 1) d) (omega arith) (w (k + 1) d h)
+ended-act count k d (Go s) walk i h w =
+    ended-plus count k (k + 1) d s (walk (k + 1) d) (omega arith) (w (k + 1) d (h .0))
 ended-act count k d (Enter n) walk i h w =
     ended-follow count k d n (walk (k + 1) (d + 1)) (λ m. walk m d) (w (k + 1) (d + 1) (h .0)) (λ m g. w m d g)
 ended-act count k d Leave walk i h w = (omega arith, (omega arith, λ _. h))

@@ -9,7 +9,7 @@ use Rattle.ec20.specs.declared.Act.the-variants.{Go, Enter, Leave, Finish, Refu
 use Rattle.ec20.specs.declared.Walked.{Walked}
 use Rattle.ec20.specs.declared.Walked.the-variants.{Done, Bad}
 use Rattle.ec20.specs.Control.{Controls}
-use Rattle.ec20.specs.Loops.{actOf, plus, follow, byAct, sequenceOf}
+use Rattle.ec20.specs.Walkers.{actOf, plus, follow, byAct, sequenceOf}
 use Rattle.loops.specs.Capped.{cap, capped}
 use Rattle.loops.specs.Walks.{loopOf, IsSequence, IsLoop, Small}
 use Rattle.loops.proofs.Ends.{Fit, fit, Ended, ended}
@@ -87,9 +87,9 @@ after-capped count k d n m w (Done m′ w′) h e p =
 after-capped count k d n m w (Bad b) h e p = let z : _≡_ {A = ℕ} 0 1 = cc in absurd (omega arith)
 
 module _ (code : Controls) (count k d : ℕ) (inside : k < count) where
-  pub go-in : actOf code count k d ≡ Go → k + 1 < count
+  pub go-in : (s : ℕ) → actOf code count k d ≡ Go s → (k + 1 < count) × (s ≤ cap)
   unfolding Fit
-  go-in e = rw e at (fit code count k d inside)
+  go-in s e = rw e at (fit code count k d inside)
 
   pub enter-in : (n : ℕ) → actOf code count k d ≡ Enter n → (k + 1 < count) × (d < 8)
   unfolding Fit
@@ -111,10 +111,10 @@ module _ (code : Controls) (count k d : ℕ) (inside : k < count) where
 
   -- One record of a sequence, by its act
 
-  pub go : (r : Walked) → actOf code count k d ≡ Go → IsSequence code count (k + 1) d r → IsSequence code count k d (capped (plus 1 r))
+  pub go : (s : ℕ) (r : Walked) → actOf code count k d ≡ Go s → IsSequence code count (k + 1) d r → IsSequence code count k d (capped (plus s r))
   unfolding IsSequence sequenceOf byAct
-  go r e s zero h = absurd (omega arith)
-  go r e s (suc n) h = rw (e, s n (omega arith)) (plus-capped 1 (sequenceOf code count n (k + 1) d))
+  go s r e q zero h = absurd (omega arith)
+  go s r e q (suc n) h = rw (e, q n (omega arith)) (plus-capped s (sequenceOf code count n (k + 1) d))
 
   pub enter : (p m w : ℕ) (r : Walked) → actOf code count k d ≡ Enter p → k < m → IsLoop code count (k + 1) (d + 1) p (Done m w) → IsSequence code count m d r → IsSequence code count k d (capped (plus w r))
   unfolding IsSequence IsLoop sequenceOf byAct
@@ -167,8 +167,8 @@ module _ (code : Controls) (count k d : ℕ) (inside : k < count) (at s : ℕ) (
   unfolding Ahead
   more t j step r q = rw (← both-ahead s t r) (so (capped (plus t r)) (step r q))
 
-  pub ahead-go : actOf code count k d ≡ Go → Ahead code count d at (k + 1) (min (s + 1) cap)
-  ahead-go e = more 1 (k + 1) (λ r q. go code count k d inside r e q)
+  pub ahead-go : (t : ℕ) → actOf code count k d ≡ Go t → Ahead code count d at (k + 1) (min (s + t) cap)
+  ahead-go t e = more t (k + 1) (λ r q. go code count k d inside t r e q)
 
   pub ahead-enter : (p m w : ℕ) → actOf code count k d ≡ Enter p → k < m → IsLoop code count (k + 1) (d + 1) p (Done m w) → Ahead code count d at m (min (s + w) cap)
   ahead-enter p m w e g l = more w m (λ r q. enter code count k d inside p m w r e g l q)

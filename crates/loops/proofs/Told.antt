@@ -8,7 +8,8 @@ use native.Mathlib.Omega.{arith}
 use borrow.Author.Tests.{le-leb, lt-leb}
 use Rattle.ec20.specs.declared.Walked.{Walked}
 use Rattle.ec20.specs.declared.Walked.the-variants.{Done, Bad}
-use Rattle.ec20.specs.Loops.{unsound, stepsOf, tooLong}
+use Rattle.ec20.specs.Loops.{tooLong}
+use Rattle.ec20.specs.Walkers.{unsound, stepsWalked}
 use Rattle.loops.specs.Capped.{cap, capped}
 
 -- 6 and its record are as they are
@@ -18,7 +19,7 @@ unsound-capped (Done m w) = refl
 unsound-capped (Bad k) = refl
 
 -- so is 8
-pub too-long-capped : (x : Walked) → tooLong (stepsOf (capped x)) ≡ tooLong (stepsOf x)
+pub too-long-capped : (x : Walked) → tooLong (stepsWalked (capped x)) ≡ tooLong (stepsWalked x)
 unfolding capped
 too-long-capped (Done m w) =
     dite (decLe w 10000000)
@@ -27,7 +28,7 @@ too-long-capped (Done m w) =
 too-long-capped (Bad k) = refl
 
 -- and W, where 8 lets it pass
-pub steps-capped : (x : Walked) → stepsOf x ≤ 10000000 → stepsOf (capped x) ≡ stepsOf x
+pub steps-capped : (x : Walked) → stepsWalked x ≤ 10000000 → stepsWalked (capped x) ≡ stepsWalked x
 unfolding capped
 steps-capped (Done m w) h = min-eq-left (omega arith)
 steps-capped (Bad k) h = refl

@@ -7,7 +7,7 @@ use Rattle.ec20.specs.declared.Walked.the-variants.{Done, Bad}
 use Rattle.ec20.specs.Code.{programIn}
 use Rattle.ec20.specs.Control.{Controls, controlsOf}
 use Rattle.ec20.specs.File.{recordsFrom}
-use Rattle.ec20.specs.Loops.{sequenceOf}
+use Rattle.ec20.specs.Walkers.{sequenceOf}
 use Rattle.loops.specs.Capped.{cap, capped}
 
 -- the controls of the program of `count` records from the byte `first` on

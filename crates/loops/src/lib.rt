@@ -4,7 +4,7 @@ ghost use Prim.Native.Nat.{_+_, _*_, _<_, _≤_, min};
 ghost use Rattle.ec20.specs.Code.{programIn};
 ghost use Rattle.ec20.specs.Control.{controlsOf};
 ghost use Rattle.ec20.specs.File.{recordsFrom};
-ghost use Rattle.ec20.specs.Loops.{lastAct, midAct, actOf, plus, walkOf};
+ghost use Rattle.ec20.specs.Walkers.{lastAct, midAct, actOf, plus, walkOf};
 ghost use Rattle.loops.specs.Capped.{cap, capped};
 ghost use Rattle.loops.specs.Walks.{controlsIn, loopOf, IsSequence, IsLoop, Small};
 ghost use Rattle.records.specs.Ranges.{Held};
@@ -45,9 +45,9 @@ fn mid_act(c: Control, depth: usize) -> Act
         }
         Control::Closes => { if 0 < depth { Act::Leave } else { Act::Refuse } }
         Control::Ends => Act::Refuse,
-        Control::Plain => Act::Go,
-        Control::Jumps(_) => Act::Go,
-        Control::Marks(_) => Act::Go,
+        Control::Plain => Act::Go(1),
+        Control::Jumps(_) => Act::Go(1),
+        Control::Marks(_) => Act::Go(1),
     }
 }
 
@@ -107,8 +107,8 @@ fn sequence(f: &[u8], first: usize, count: usize, at: usize, depth: usize) -> Wa
     while k < count {
         let next = k + 1;
         match asked(f, first, count, k, depth) {
-            Act::Go => {
-                steps = least(steps + 1);
+            Act::Go(n) => {
+                steps = least(steps + n);
                 k = next;
                 continue;
             }
@@ -137,7 +137,7 @@ fn in_loop(f: &[u8], first: usize, count: usize, body: usize, depth: usize, pass
 {
     let next = body + 1;
     match asked(f, first, count, body, depth) {
-        Act::Go => closed(add(sequence(f, first, count, next, depth), 1), passes),
+        Act::Go(n) => closed(add(sequence(f, first, count, next, depth), n), passes),
         Act::Enter(n) => match in_loop(f, first, count, next, depth + 1, n) {
             Walked::Done(after, steps) => {
                 closed(add(sequence(f, first, count, after, depth), steps), passes)

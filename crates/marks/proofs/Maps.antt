@@ -15,8 +15,8 @@ use Rattle.ec20.proofs.Ranges.{within-no}
 use Rattle.ec20.proofs.Tests.{or-right}
 use Rattle.ec20.specs.Basics.{pick, one-if}
 use Rattle.ec20.specs.Bits.{bitOf, bitAt, byteWith, withBit}
-use Rattle.ec20.specs.Devices.{Device, kindD, within}
-use Rattle.ec20.specs.Operands.{kindIs}
+use Rattle.ec20.specs.Devices.{Device, within}
+use Rattle.ec20.specs.Operands.{inD, startOf, extentOf}
 use Rattle.ec20.specs.UseMap.{packedBy, mapOf, blankMap, holds}
 use Rattle.ec20.specs.declared.Operand.{Operand}
 use Rattle.ec20.specs.declared.Place.{Place}
@@ -56,15 +56,15 @@ one-is false = refl
 
 -- ---- the map
 
--- an operand that is D, and one that is not
-module _ (m : List ℕ) (p : Place) (o : Operand) where
-  pub held-some : {e : ℕ} {y : List ℕ} → o .kind ≡ 7 → e ≡ p .extent → y ≡ marking m (o .value) e → y ≡ markingHeld m p o
+-- an operand with words in D, and one with none
+module _ (m : List ℕ) (p : Place) (o : Operand) {b : Bool} (d : b ≡ inD o) where
+  pub held-some : {a n : ℕ} {y : List ℕ} → b ≡ true → a ≡ startOf o → n ≡ extentOf p o → y ≡ marking m a n → y ≡ markingHeld m p o
   unfolding markingHeld
-  held-some k e f = f ∙ rw (eq-eqb _ _ k, e) refl
+  held-some k e f g = g ∙ rw (sym d, k, e, f) refl
 
-  pub held-none : (o .kind ≡ 7 → ⊥) → m ≡ markingHeld m p o
+  pub held-none : b ≡ false → m ≡ markingHeld m p o
   unfolding markingHeld
-  held-none k = rw (ne-eqb _ _ k) refl
+  held-none k = rw (sym d, k) refl
 
 -- one word more is marked
 pub marking-more : (m : List ℕ) (a k : ℕ) {x y : List ℕ} → x ≡ marking m a k → y ≡ withBit x (a + k) 1 → y ≡ marking m a (k + 1)
@@ -166,4 +166,4 @@ module _ (v : Device) where
   -- the words marked that an operand's extent holds
   pub map-held : (p : ℕ → Bool) (w : Place) (o : Operand) → markingHeld (mapOf v p) w o ≡ mapOf v (λ i. p i || holds i w o)
   unfolding markingHeld holds
-  map-held p w o = held-by p (o .value) (w .extent) (kindIs kindD o)
+  map-held p w o = held-by p (startOf o) (extentOf w o) (inD o)

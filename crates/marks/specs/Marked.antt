@@ -6,9 +6,9 @@ use mathlib.Core.Path.{_≡_}
 use lib.Dec.{eqb}
 use Rattle.ec20.specs.Basics.{pick, some-below}
 use Rattle.ec20.specs.Bits.{bitAt, withBit}
-use Rattle.ec20.specs.Devices.{Device, kindD}
+use Rattle.ec20.specs.Devices.{Device}
 use Rattle.ec20.specs.File.{Records}
-use Rattle.ec20.specs.Operands.{kindIs}
+use Rattle.ec20.specs.Operands.{inD, startOf, extentOf}
 use Rattle.ec20.specs.UseMap.{mapOf, recordHas}
 use Rattle.ec20.specs.declared.Operand.{Operand}
 use Rattle.ec20.specs.declared.Place.{Place}
@@ -24,7 +24,7 @@ marking m a (suc n) = withBit (marking m a n) (a + n) 1
 
 -- the map with the words marked that the operand's extent holds
 unfoldable pub markingHeld : List ℕ → Place → Operand → List ℕ
-markingHeld m p o = pick (kindIs kindD o) (marking m (o .value) (p .extent)) m
+markingHeld m p o = pick (inD o) (marking m (startOf o) (extentOf p o)) m
 
 -- the second map is the first with the words marked that pass the test: for every test p by which the first is a map
 pub record Widened (v : Device) (t : ℕ → Bool) (m n : List ℕ) : Type 0 where

@@ -25,12 +25,12 @@ pub fn mark(map: &mut [u8; 1000], start: usize, extent: usize)
     }
 }
 
-// The words that the operand's extent at this place holds are marked: it holds some only if it is D.
+// The words that the operand's extent at this place holds are marked: it holds some only if it names words in D.
 pub fn mark_held(map: &mut [u8; 1000], p: Place, o: Operand)
     requires { ⌜ o .value < 2 ^ 32 ⌝ }
     ensures { λ _. ⌜ now (map .exit) ≡ markingHeld (now (map .entry)) p o ⌝ }
 {
-    if o.kind == 7 {
-        mark(map, o.value, records::wide(p.extent));
+    if extents::in_d(o) {
+        mark(map, extents::start(o), extents::length(p, o));
     }
 }

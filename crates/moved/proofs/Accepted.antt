@@ -19,7 +19,7 @@ use Rattle.ec20.specs.Operands.{faultIn, firstBad}
 use Rattle.moving.specs.Rename.{renameRec, renameProgram}
 use Rattle.moved.specs.Placed.{Placed}
 use Rattle.moved.proofs.Alike.{same-judged, same-verdict}
-use Rattle.moved.proofs.Bytes.{frame-whole, below, small-number, same-count, same-first, same-frame, record-moved}
+use Rattle.moved.proofs.Bytes.{frame-whole, below, small-number, same-edition, same-count, same-first, same-frame, record-moved}
 use Rattle.moved.proofs.Program.{program-renamed}
 use Rattle.moved.proofs.Records.{renamed, no-fault-new}
 
@@ -52,7 +52,7 @@ module _ (v : Device) (f : List ℕ) (b : Block) (q : ℕ) (byte : (i : ℕ) →
   -- so the moved file is the renamed program
   pub moved-program : programOf g ≡ renameProgram σ (programOf f)
   unfolding programOf
-  moved-program = program-renamed pl (recordsOf g) (same-count b q f whole) record-renamed
+  moved-program = program-renamed pl (recordsOf g) (same-edition b q f whole) (same-count b q f whole) record-renamed
 
   -- none of its records breaks 2, 3 or 4
   moved-sound : firstBad v (recordsOf g) ≡ Fine

@@ -1,7 +1,7 @@
 -- What the check sees of a program, past its operands: renamed, it is the same. The rung rule, loops, labels and W go by instructions and not by
 -- D numbers.
 use Prim.Native.Nat.{ℕ, zero, suc}
-use mathlib.Core.Path.{_≡_, refl, ap, ap₂, fun-ext}
+use mathlib.Core.Path.{_≡_, refl, ap, ap₂}
 use Rattle.ec20.specs.Basics.{then}
 use Rattle.ec20.specs.declared.Instr.{Instr}
 use Rattle.ec20.specs.declared.Instr.the-variants.{Nop, Contact, Compare, Join, Branch, Coil, Timer, For, Next, Jump, Label, End, Word}
@@ -11,30 +11,15 @@ use Rattle.ec20.specs.declared.Rung.{Rung}
 use Rattle.ec20.specs.declared.Verdict.the-variants.{Accepted}
 use Rattle.ec20.specs.Check.{judgeProgram, verdictOf}
 use Rattle.ec20.specs.Code.{Program}
-use Rattle.ec20.specs.Control.{Controls, controlOf, controlsOf}
+use Rattle.ec20.specs.Control.{Controls}
 use Rattle.ec20.specs.Labels.{firstUnlabelled}
-use Rattle.ec20.specs.Loops.{walkOf, unsound, stepsOf, tooLong}
+use Rattle.ec20.specs.Loops.{firstUnsound, wIn, tooLong}
 use Rattle.ec20.specs.Rung.{startRung, keeps, afterRecord, brokenFrom}
 use Rattle.moving.specs.Rename.{renameInstr, renameProgram}
+use Rattle.moving.proofs.Exec.{controls-same}
 
 module _ (σ : ℕ → ℕ) where
   -- ---- an instruction
-
-  same-control : (i : Instr) → controlOf (renameInstr σ i) ≡ controlOf i
-  unfolding renameInstr controlOf
-  same-control Nop = refl
-  same-control (Contact n o) = refl
-  same-control (Compare n a b) = refl
-  same-control (Join n) = refl
-  same-control (Branch n) = refl
-  same-control (Coil n o) = refl
-  same-control (Timer i c) = refl
-  same-control (For c) = refl
-  same-control Next = refl
-  same-control (Jump l) = refl
-  same-control (Label l) = refl
-  same-control End = refl
-  same-control (Word n a b t) = refl
 
   same-keeps : (i : Instr) (s : Rung) → keeps (renameInstr σ i) s ≡ keeps i s
   unfolding renameInstr keeps
@@ -78,16 +63,13 @@ module _ (σ : ℕ → ℕ) where
   module _ (p : Program) where
     -- 6, 7 and 8 see the controls alone
     abbrev structure : Controls → Judged
-    structure c = then (unsound (walkOf c (p .count))) (then (firstUnlabelled c (p .count)) (tooLong (stepsOf (walkOf c (p .count)))))
-
-    same-controls : controlsOf (renameProgram σ p) ≡ controlsOf p
-    same-controls = fun-ext (λ k. same-control (p .code k))
+    structure c = then (firstUnsound c (p .count)) (then (firstUnlabelled c (p .count)) (tooLong (wIn c (p .count))))
 
     pub same-judged : judgeProgram (renameProgram σ p) ≡ judgeProgram p
     unfolding judgeProgram
     same-judged =
-        ap₂ (λ (a : Judged) (c : Controls). then a (structure c)) (same-rungs (p .code) startRung 0 (p .count)) same-controls
+        ap₂ (λ (a : Judged) (c : Controls). then a (structure c)) (same-rungs (p .code) startRung 0 (p .count)) (controls-same σ p)
 
     pub same-verdict : (j : Judged) → verdictOf (renameProgram σ p) j ≡ verdictOf p j
-    same-verdict Fine = ap (λ (c : Controls). Accepted (p .count) (stepsOf (walkOf c (p .count)))) same-controls
+    same-verdict Fine = ap (λ (c : Controls). Accepted (p .count) (wIn c (p .count))) (controls-same σ p)
     same-verdict (Fault n k) = refl

@@ -5,15 +5,16 @@ use mathlib.Core.Bool.{Bool, true, false, not, _&&_}
 use mathlib.Core.Logic.{_⊎_, inl, inr}
 use mathlib.Core.Path.{_≡_, refl, sym}
 use native.Mathlib.Omega.{arith}
-use borrow.Author.Tests.{leb-true, eq-eqb, not-false}
+use borrow.Author.Tests.{leb-true, not-false}
 use lib.Dec.{leb}
 use Rattle.ec20.proofs.Tests.{both}
 use Rattle.ec20.proofs.Ranges.{within-yes}
 use Rattle.ec20.specs.declared.Operand.{Operand}
 use Rattle.ec20.specs.declared.Place.{Place}
-use Rattle.ec20.specs.Devices.{Device, kindD, meets, inside}
+use Rattle.ec20.specs.Devices.{Device, meets, inside}
 use Rattle.ec20.specs.Exchange.{swapped}
 use Rattle.ec20.specs.Move.{Block, block, touches, partly, movedNumber}
+use Rattle.ec20.specs.Operands.{inD, startOf, extentOf}
 use Rattle.blocks.specs.Apart.{Apart}
 use Rattle.blocks.proofs.Swapped.{Clear, clear, within-clear, swap-block, swap-out}
 
@@ -22,18 +23,18 @@ abbrev pub Fair : Block → ℕ → ℕ → ℕ → Type 0
 Fair b q a e = ((b .start ≤ a) × (a + e ≤ b .start + b .length)) ⊎ (Clear a e (b .start) (b .length) × Clear a e q (b .length))
 
 -- an extent in D that is not partly in the block and does not meet the place
-pub fair : (b : Block) (q : ℕ) (p : Place) (o : Operand) → o .kind ≡ kindD → partly b p o ≡ false → touches (block q (b .length)) p o ≡ false
-    → Fair b q (o .value) (p .extent)
+pub fair : (b : Block) (q : ℕ) (p : Place) (o : Operand) → inD o ≡ true → partly b p o ≡ false → touches (block q (b .length)) p o ≡ false
+    → Fair b q (startOf o) (extentOf p o)
 unfolding partly touches inside
 fair b q p o k x y =
-    go (meets (o .value) (p .extent) (b .start) (b .length)) refl (rw (eq-eqb _ _ k) at x) (clear _ _ _ _ (rw (eq-eqb _ _ k) at y))
+    go (meets (startOf o) (extentOf p o) (b .start) (b .length)) refl (rw k at x) (clear _ _ _ _ (rw k at y))
   where
-    go : (t : Bool) → meets (o .value) (p .extent) (b .start) (b .length) ≡ t
-        → (t && not (leb (b .start) (o .value) && leb (o .value + p .extent) (b .start + b .length))) ≡ false
-        → Clear (o .value) (p .extent) q (b .length)
-        → Fair b q (o .value) (p .extent)
+    go : (t : Bool) → meets (startOf o) (extentOf p o) (b .start) (b .length) ≡ t
+        → (t && not (leb (b .start) (startOf o) && leb (startOf o + extentOf p o) (b .start + b .length))) ≡ false
+        → Clear (startOf o) (extentOf p o) q (b .length)
+        → Fair b q (startOf o) (extentOf p o)
     go true f g c =
-        let h = both (leb (b .start) (o .value)) (leb (o .value + p .extent) (b .start + b .length)) (not-false _ g) in
+        let h = both (leb (b .start) (startOf o)) (leb (startOf o + extentOf p o) (b .start + b .length)) (not-false _ g) in
         inl (leb-true _ _ (h .0), leb-true _ _ (h .1))
     go false f g c = inr (clear _ _ _ _ f, c)
 
@@ -46,10 +47,10 @@ module _ (v : Device) (b : Block) (q : ℕ) (two : Apart v b q) where
       rw (swap-out v b q two a e a (h .0) (h .1) (omega arith) (omega arith), swap-out v b q two a e (a + j) (h .0) (h .1) (omega arith) (omega arith))
 
   -- "each D number in the block raised or lowered by the distance": of an operand in D with such an extent
-  pub moved-swapped : (e : ℕ) (o : Operand) → 1 ≤ e → o .kind ≡ kindD → Fair b q (o .value) e → movedNumber b q o ≡ swapped b q (o .value)
-  unfolding movedNumber
+  pub moved-swapped : (e : ℕ) (o : Operand) → 1 ≤ e → inD o ≡ true → Fair b q (startOf o) e → movedNumber b q o ≡ swapped b q (startOf o)
+  unfolding movedNumber startOf
   moved-swapped e o z k (inl h) =
-      rw (eq-eqb _ _ k, within-yes (b .start) (b .length) (o .value) (h .0) (omega arith)) (sym (swap-block v b q two (o .value) (h .0) (omega arith)))
+      rw (k, within-yes (b .start) (b .length) (startOf o) (h .0) (omega arith)) (sym (swap-block v b q two (startOf o) (h .0) (omega arith)))
   moved-swapped e o z k (inr h) =
-      rw (eq-eqb _ _ k, within-clear (o .value) e (b .start) (b .length) (o .value) (h .0) (omega arith) (omega arith))
-      (sym (swap-out v b q two (o .value) e (o .value) (h .0) (h .1) (omega arith) (omega arith)))
+      rw (k, within-clear (startOf o) e (b .start) (b .length) (startOf o) (h .0) (omega arith) (omega arith))
+      (sym (swap-out v b q two (startOf o) e (startOf o) (h .0) (h .1) (omega arith) (omega arith)))

@@ -6,18 +6,18 @@ use mathlib.Core.Path.{_≡_, sym, ap, ap₂, _∙_}
 use native.Mathlib.Omega.{arith}
 use native.Mathlib.Nat.{add-sub-cancel-left, div-one}
 use lib.Arith.{digits-div, digits-mod}
-use lib.Dec.{ltb, leb, eqb}
+use lib.Dec.{leb, eqb}
 use lib.ListN.{length}
-use borrow.Author.Tests.{ltb-true, leb-true, eqb-true, le-leb, lt-leb}
+use borrow.Author.Tests.{leb-true, eqb-true, le-ltb, lt-ltb}
 use Rattle.ec20.proofs.MovedLaws.{moved-length, moved-at, trailer-kept, in-record}
+use Rattle.ec20.proofs.Ranges.{is-within}
 use Rattle.ec20.proofs.Tests.{both, picked}
-use Rattle.ec20.specs.Basics.{pick}
 use Rattle.ec20.specs.declared.Operand.{Operand}
 use Rattle.ec20.specs.declared.Rec.{Rec}
-use Rattle.ec20.specs.Devices.{kindD, within}
+use Rattle.ec20.specs.Devices.{within}
 use Rattle.ec20.specs.File.{byteAt, u16At, u32At, editionOf, countOf, distanceOf, firstOf, framed, operandAt, recordFrom}
-use Rattle.ec20.specs.Move.{Block, byteOf, movedNumber, movedInRecord, movedFile}
-use Rattle.ec20.specs.Operands.{kindIs}
+use Rattle.ec20.specs.Move.{Block, byteOf, movedNumber, movedInOperand, movedInRecord, movedFile}
+use Rattle.ec20.specs.Operands.{inD, startOf}
 
 -- a whole frame: the records and the trailer are what follows the comment
 pub frame-whole : (f : List ℕ) → framed f ≡ true → firstOf f + 20 * countOf f + 8 ≡ length f
@@ -53,13 +53,13 @@ movedRec b q r =
 
 -- a moved number fits where the old one did, if the place ends below 2 ^ 32
 pub small-number : (b : Block) (q : ℕ) (o : Operand) → o .value < 2 ^ 32 → q + b .length ≤ 2 ^ 32 → movedNumber b q o < 2 ^ 32
-unfolding movedNumber within
+unfolding movedNumber startOf
 small-number b q o x y =
-    picked (λ (n : ℕ). n < 2 ^ 32) (kindIs kindD o && within (b .start) (b .length) (o .value)) (o .value - b .start + q) (o .value)
+    picked (λ (n : ℕ). n < 2 ^ 32) (inD o && within (b .start) (b .length) (startOf o)) (o .value - b .start + q) (o .value)
     (λ t.
-    let w = both (leb (b .start) (o .value)) (ltb (o .value) (b .start + b .length)) (both (kindIs kindD o) (within (b .start) (b .length) (o .value)) t .1) in
-    let l : b .start ≤ o .value = leb-true _ _ (w .0) in
-    let h : o .value < b .start + b .length = ltb-true _ _ (w .1) in
+    let w = is-within (b .start) (b .length) (startOf o) (both (inD o) (within (b .start) (b .length) (startOf o)) t .1) in
+    let l : b .start ≤ o .value = w .0 in
+    let h : o .value < b .start + b .length = w .1 in
     omega arith)
     (λ t. x)
 
@@ -111,9 +111,9 @@ module _ (b : Block) (q : ℕ) (f : List ℕ) (whole : firstOf f + 20 * countOf 
 
   -- byte j of operand t, from the record's byte i on
   in-operand : (i t j : ℕ) → j < 6
-      → movedInRecord b q f i (2 + (t * 6 + j)) ≡ pick (leb 2 j) (byteOf (movedNumber b q (operandAt f (i + 2 + t * 6))) (j - 2)) (byteAt f (i + (2 + (t * 6 + j))))
+      → movedInRecord b q f i (2 + (t * 6 + j)) ≡ movedInOperand b q f (i + 2 + t * 6) j
   unfolding movedInRecord
-  in-operand i t j h = rw (add-sub-cancel-left 2 (t * 6 + j), digits-div t h, digits-mod t h)
+  in-operand i t j h = rw (le-ltb (2 + (t * 6 + j)) 2 (omega arith), add-sub-cancel-left 2 (t * 6 + j), digits-div t h, digits-mod t h)
 
   -- operand t of record k, which begins at byte i
   module _ (k t i : ℕ) (hk : k < countOf f) (ht : t < 3) (e : i ≡ firstOf f + 20 * k + 2 + t * 6) where
@@ -121,18 +121,20 @@ module _ (b : Block) (q : ℕ) (f : List ℕ) (whole : firstOf f + 20 * countOf 
     o = operandAt f i
 
     -- its byte j
-    at : (j n : ℕ) → j < 6 → n ≡ i + j → byteAt g n ≡ pick (leb 2 j) (byteOf (movedNumber b q o) (j - 2)) (byteAt f n)
+    at : (j n : ℕ) → j < 6 → n ≡ i + j → byteAt g n ≡ movedInOperand b q f i j
     at j n h z =
         let y : firstOf f + 20 * k + (2 + (t * 6 + j)) ≡ n = omega arith in
-        byte k (2 + (t * 6 + j)) n hk (omega arith) (sym y) ∙ in-operand (firstOf f + 20 * k) t j h ∙ rw (y, ← e)
+        byte k (2 + (t * 6 + j)) n hk (omega arith) (sym y) ∙ in-operand (firstOf f + 20 * k) t j h ∙ rw (← e)
 
     -- kind and group size are as they were
     head : (j n : ℕ) → j < 2 → n ≡ i + j → byteAt g n ≡ byteAt f n
-    head j n h z = at j n (omega arith) z ∙ rw (lt-leb 2 j h)
+    unfolding movedInOperand
+    head j n h z = at j n (omega arith) z ∙ rw (lt-ltb j 2 h, ← z)
 
     -- and the number is the moved one
     number : (j n : ℕ) → j < 4 → n ≡ i + (2 + j) → byteAt g n ≡ byteOf (movedNumber b q o) j
-    number j n h z = at (2 + j) n (omega arith) z ∙ rw (le-leb 2 (2 + j) (omega arith), add-sub-cancel-left 2 j)
+    unfolding movedInOperand
+    number j n h z = at (2 + j) n (omega arith) z ∙ rw (le-ltb (2 + j) 2 (omega arith), add-sub-cancel-left 2 j)
 
     value : movedNumber b q o < 2 ^ 32 → u32At g (i + 2) ≡ movedNumber b q o
     unfolding u32At
@@ -151,8 +153,7 @@ module _ (b : Block) (q : ℕ) (f : List ℕ) (whole : firstOf f + 20 * countOf 
   front : (k r n : ℕ) → k < countOf f → r < 2 → n ≡ firstOf f + 20 * k + r → byteAt g n ≡ byteAt f n
   unfolding movedInRecord
   front k r n hk hr z =
-      let y : r - 2 ≡ 0 = omega arith in
-      byte k r n hk (omega arith) z ∙ rw (y, ← z)
+      byte k r n hk (omega arith) z ∙ rw (lt-ltb r 2 hr, ← z)
 
   -- record k
   pub record-moved : (k : ℕ) → k < countOf f → ((i : ℕ) → movedNumber b q (operandAt f i) < 2 ^ 32)

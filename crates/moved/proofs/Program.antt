@@ -1,11 +1,10 @@
 -- The program of the renamed records is the renamed program, and each extent of the old one goes along whole.
 use Prim.Native.Nat.{ℕ, _<_}
 use mathlib.Core.Bool.{Bool, true, false}
-use mathlib.Core.Path.{_≡_, refl, ap, ap₂, fun-ext, _∙_}
-use native.Mathlib.Omega.{arith}
+use mathlib.Core.Path.{_≡_, refl, sym, ap, ap₂, fun-ext, _∙_}
 use lib.Dec.{ltb, eqb}
 use borrow.Author.Tests.{ltb-true, eqb-true}
-use Rattle.ec20.proofs.Tests.{picked}
+use Rattle.ec20.proofs.Tests.{differ, picked}
 use Rattle.ec20.specs.Basics.{pick}
 use Rattle.ec20.specs.declared.Instr.{Instr}
 use Rattle.ec20.specs.declared.Operand.{Operand}
@@ -16,8 +15,11 @@ use Rattle.ec20.specs.Devices.{Device}
 use Rattle.ec20.specs.Exchange.{swapped}
 use Rattle.ec20.specs.File.{Records}
 use Rattle.ec20.specs.Move.{Block}
-use Rattle.ec20.specs.Table.{rowOf, formContact, formJoin, formBranch, formCoil, formCompare, formTimer, formFor, formNext, formJump, formLabel, formEnd, formThree, formTwo, formOne}
+use Rattle.ec20.specs.Operands.{inD}
+use Rattle.ec20.specs.Table.{rowOf}
+use Rattle.ec20.specs.Forms.{formContact, formJoin, formBranch, formCoil, formCompare, formTimer, formFor, formNext, formJump, formLabel, formEnd, formThree, formTwo, formOne}
 use Rattle.moving.specs.Rename.{renameOperand, renameRec, renameInstr, renameProgram, Along, Whole}
+use Rattle.moving.proofs.Operand.{rename-other}
 use Rattle.refusals.specs.Records.{Operand-at, first, second, third}
 use Rattle.blocks.specs.Apart.{Apart}
 use Rattle.moved.specs.Placed.{Placed}
@@ -32,13 +34,16 @@ pick-renamed σ true x y x′ y′ p q = p refl
 pick-renamed σ false x y x′ y′ p q = q refl
 
 -- no operand is none in D
+none-in-D : inD noOperand ≡ false
+unfolding inD
+none-in-D = refl
+
 none-renamed : (σ : ℕ → ℕ) → renameOperand σ noOperand ≡ noOperand
-unfolding renameOperand
-none-renamed σ = refl
+none-renamed σ = rename-other σ noOperand none-in-D
 
 none-along : (σ : ℕ → ℕ) (e : ℕ) → Along σ e noOperand
 unfolding Along
-none-along σ e k = absurd (omega arith)
+none-along σ e k = differ (sym k ∙ none-in-D)
 
 -- record k
 module _ {v : Device} {rs : Records} {b : Block} {q : ℕ} (pl : Placed v rs b q) (k : ℕ) (h : k < rs .count) where
@@ -110,10 +115,12 @@ module _ {v : Device} {rs : Records} {b : Block} {q : ℕ} (pl : Placed v rs b q
   abbrev ρ : ℕ → ℕ
   ρ = swapped b q
 
-  pub program-renamed : (ss : Records) → ss .count ≡ rs .count → ((k : ℕ) → k < rs .count → ss .at k ≡ renameRec ρ (rs .at k))
+  pub program-renamed : (ss : Records) → ss .edition ≡ rs .edition → ss .count ≡ rs .count → ((k : ℕ) → k < rs .count → ss .at k ≡ renameRec ρ (rs .at k))
       → programIn ss ≡ renameProgram ρ (programIn rs)
   unfolding codeOf renameInstr
-  program-renamed ss c e = ap₂ (λ (n : ℕ) (code : ℕ → Instr). record { count = n; code = code }) c (fun-ext code)
+  program-renamed ss d c e =
+      ap₂ (λ (n : ℕ) (code : ℕ → Instr). record { edition = ss .edition; count = n; code = code }) c (fun-ext code)
+      ∙ ap (λ (n : ℕ). record { edition = n; count = rs .count; code = λ k. renameInstr ρ (codeOf rs k) }) d
     where
       code : (k : ℕ) → codeOf ss k ≡ renameInstr ρ (codeOf rs k)
       code k =

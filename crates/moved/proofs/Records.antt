@@ -49,7 +49,7 @@ module _ {v : Device} {rs : Records} {b : Block} {q : ℕ} (pl : Placed v rs b q
         off-work = has-none (inWork v) r (record-fine v r no-fault-here .2) at;
         unsplit = has-none (partly b) r no-split at;
         unused = has-none (touches (block q (b .length))) r not-used at;
-        some = some-word r at;
+        some = λ k. some-word v r at k (all-allowed v r (record-fine v r no-fault-here .1) at);
       }
 
   -- the record that the mover writes is the renamed one

@@ -10,7 +10,8 @@ use Rattle.ec20.proofs.Tests.{both, each, implied}
 use Rattle.ec20.specs.Basics.{pick}
 use Rattle.ec20.specs.declared.Place.{Place}
 use Rattle.ec20.specs.declared.Row.{Row}
-use Rattle.ec20.specs.Table.{table, unknown, rowOf, formContact, formCoil, formTimer, formFor, formJump, formLabel, formThree, formTwo, formOne}
+use Rattle.ec20.specs.Table.{table, unknown, rowOf}
+use Rattle.ec20.specs.Forms.{formContact, formCoil, formTimer, formFor, formJump, formLabel, formThree, formTwo, formOne}
 use Rattle.ec20.specs.Step.{widthOf}
 use Rattle.ec20.specs.Words.{is}
 use Rattle.moving.specs.Rename.{wordsOf, writtenBy}

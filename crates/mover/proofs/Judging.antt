@@ -10,7 +10,7 @@ use Rattle.ec20.specs.declared.Judged.the-variants.{Fine}
 use Rattle.mover.specs.Ready.{Sized}
 
 pub is-sized : (rs : Records) (b : Block) (l : Pool) {t : Judged} → t ≡ judgeMove ec20 rs b l → t ≡ Fine
-    → Sized (b .start) (b .length) (l .start) (l .end)
+    → Sized ec20 (b .start) (b .length) (l .start) (l .end)
 unfolding judgeMove
 is-sized rs b l e f =
     let ten = then-fine (blockFault ec20 b) (then (poolFault ec20 l) (then (blockWork ec20 b) (splitFault rs b))) (sym e ∙ f) in

@@ -20,7 +20,7 @@ module _ (rs : Records) (s n from end q : ℕ) where
   in-pool h = is-inside q n from (end - from) (place-parts ec20 rs (block s n) (pool from end) q h .0)
 
   -- so its numbers are numbers of four bytes
-  pub is-below : {x : Found} → x ≡ placeOf ec20 rs (block s n) (pool from end) → x ≡ At q → Sized s n from end → Below s n q
+  pub is-below : {x : Found} → x ≡ placeOf ec20 rs (block s n) (pool from end) → x ≡ At q → Sized ec20 s n from end → Below s n q
   unfolding placeOf
   is-below e f w =
       let h = in-pool (first-at (isPlace ec20 rs (block s n) (pool from end)) (end - from) from q (sym e ∙ f) .passes) in

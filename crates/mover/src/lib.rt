@@ -46,7 +46,7 @@ fn move_to_place(
     from: usize,
     end: usize,
 ) -> Moved
-    requires { ⌜ Checked (now file) first count × Sized start n from end ⌝ }
+    requires { ⌜ Checked ec20 (now file) first count × Sized ec20 start n from end ⌝ }
     ensures { λ r. ⌜ move r (now (file .exit)) ≡ moveTo (placeOf ec20 (recordsFrom (now (file .entry)) first count) (block start n) (pool from end)) (now (file .entry)) (block start n) ⌝ }
 {
     match places::place(file, first, count, start, n, from, end) {
@@ -71,7 +71,7 @@ fn move_records(
     from: usize,
     end: usize,
 ) -> Moved
-    requires { ⌜ Checked (now file) first count × (start < 2 ^ 32) × (n < 2 ^ 32) ⌝ }
+    requires { ⌜ Checked ec20 (now file) first count × (start < 2 ^ 32) × (n < 2 ^ 32) ⌝ }
     ensures { λ r. ⌜ move r (now (file .exit)) ≡ moveIf (judgeMove ec20 (recordsFrom (now (file .entry)) first count) (block start n) (pool from end)) (placeOf ec20 (recordsFrom (now (file .entry)) first count) (block start n) (pool from end)) (now (file .entry)) (block start n) ⌝ }
 {
     match judge(file, first, count, start, n, from, end) {

@@ -5,6 +5,7 @@ use mathlib.Core.Path.{_≡_, refl}
 use lib.ListN.{getD, replicate}
 use lib.IntN.{pos}
 use Rattle.ec20.specs.declared.Scanned.the-variants.{Refused}
+use Rattle.ec20.specs.Devices.{ec20}
 use Rattle.ec20.specs.Registers.{wordAt}
 use Rattle.ec20.specs.Scan.{Scan}
 use Rattle.ec20.proofs.Computing.{computing}
@@ -19,10 +20,10 @@ abbrev given : ℕ → ℕ → Input
 given x e = record { x = x ∷ replicate 31 0; elapsed = e; budget = 100 }
 
 -- of four scans the second is refused (elapsed time above 32767) and the third has X0 off
-pub counted : map (λ (s : Scan). wordAt (s .mem .d) 0) (series counter blank (given 1 0 ∷ given 1 40000 ∷ given 0 0 ∷ given 1 0 ∷ [])) ≡ pos 1 ∷ pos 1 ∷ pos 1 ∷ pos 2 ∷ []
+pub counted : map (λ (s : Scan). wordAt (s .mem .d) 0) (series ec20 counter blank (given 1 0 ∷ given 1 40000 ∷ given 0 0 ∷ given 1 0 ∷ [])) ≡ pos 1 ∷ pos 1 ∷ pos 1 ∷ pos 2 ∷ []
 unfolding computing series
 counted = refl
 
-pub second-refused : getD (map (λ (s : Scan). s .answer) (series counter blank (given 1 0 ∷ given 1 40000 ∷ []))) 1 (Refused 0 0) ≡ Refused 9 0
+pub second-refused : getD (map (λ (s : Scan). s .answer) (series ec20 counter blank (given 1 0 ∷ given 1 40000 ∷ []))) 1 (Refused 0 0) ≡ Refused 9 0
 unfolding computing series
 second-refused = refl

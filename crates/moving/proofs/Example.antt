@@ -2,7 +2,7 @@
 use Prim.Native.Nat.{ℕ, zero, suc, _+_, _<_}
 use mathlib.Core.Bool.{false}
 use mathlib.Core.List.{List, [], _∷_, map}
-use mathlib.Core.Path.{_≡_, refl, ap, fun-ext}
+use mathlib.Core.Path.{_≡_, refl, sym, ap, fun-ext}
 use native.Mathlib.Omega.{arith}
 use lib.Dec.{ltb}
 use lib.IntN.{ℤ, pos, negℤ}
@@ -10,17 +10,18 @@ use borrow.Author.Tests.{le-ltb, le-leb}
 use Rattle.ec20.specs.declared.Operand.{Operand}
 use Rattle.ec20.specs.declared.Instr.{Instr}
 use Rattle.ec20.specs.declared.Verdict.the-variants.{Accepted}
-use Rattle.ec20.specs.Devices.{kindD, within}
+use Rattle.ec20.specs.Devices.{ec20, kindD, within}
 use Rattle.ec20.specs.Bits.{bitAt}
 use Rattle.ec20.specs.Code.{Program, programOf}
-use Rattle.ec20.specs.Check.{checkOf}
+use Rattle.ec20.specs.Check.{checkFor}
 use Rattle.ec20.specs.Registers.{wordAt}
 use Rattle.ec20.specs.Memory.{Memory}
-use Rattle.ec20.specs.Scan.{scanOf}
-use Rattle.ec20.specs.UseMap.{useMapOf}
+use Rattle.ec20.specs.Scan.{scanFor}
+use Rattle.ec20.specs.UseMap.{mapFor}
 use Rattle.ec20.specs.Move.{block}
 use Rattle.ec20.specs.Exchange.{swapped}
 use Rattle.ec20.proofs.Computing.{computing}
+use Rattle.ec20.proofs.Tests.{differ}
 use Rattle.ec20.proofs.Files.{K, SM, D, r0, r1, r2, r3, file, blank}
 use Rattle.moving.specs.Rename.{Swap, renameOperand, renameInstr, renameProgram, exMemory, exScan, Along, Whole}
 use Rattle.moving.specs.Series.{Input, series}
@@ -68,7 +69,7 @@ swap : Swap σ 8000
 swap = record { twice = twice; stays = stays }
 
 -- the check says the same of both
-same-check : checkOf (sample 2) ≡ checkOf (sample 0)
+same-check : checkFor ec20 (sample 2) ≡ checkFor ec20 (sample 0)
 unfolding computing
 same-check = refl
 
@@ -85,7 +86,7 @@ same-code (suc (suc (suc (suc (suc k))))) =
 
 same-program : programOf (sample 2) ≡ renameProgram σ (programOf (sample 0))
 unfolding computing
-same-program = ap (λ (c : ℕ → Instr). let p : Program = record { count = 5; code = c } in p) (fun-ext same-code)
+same-program = ap (λ (c : ℕ → Instr). let p : Program = record { edition = 1; count = 5; code = c } in p) (fun-ext same-code)
 
 -- each extent goes along whole: the pair at D0, the four words at D20, the words D0 and D8; constants and what is no operand need not
 pair-along : (j : ℕ) → j < 2 → σ (0 + j) ≡ σ 0 + j
@@ -105,20 +106,20 @@ four-along (suc (suc (suc (suc j)))) l = absurd (omega arith)
 whole : (k : ℕ) → Whole σ (programOf (sample 0) .code k)
 unfolding computing Whole Along
 whole zero = tt
-whole (suc zero) = (λ e j l. absurd (omega arith), λ e j l. absurd (omega arith), λ e. pair-along)
-whole (suc (suc zero)) = (λ e. pair-along, λ e j l. absurd (omega arith), λ e. four-along)
+whole (suc zero) = (λ e. differ (sym e), λ e. differ (sym e), λ e. pair-along)
+whole (suc (suc zero)) = (λ e. pair-along, λ e. differ (sym e), λ e. four-along)
 whole (suc (suc (suc zero))) = (along-one σ (d 0), along-one σ none, along-one σ (d 8))
 whole (suc (suc (suc (suc zero)))) = tt
 whole (suc (suc (suc (suc (suc k))))) =
     let h : ltb (suc (suc (suc (suc (suc k))))) 5 ≡ false = le-ltb (suc (suc (suc (suc (suc k))))) 5 (omega arith) in rw h tt
 
 -- so every series of scans of the second from the exchanged memory on is the exchanged series of the first
-pub series-same : (c : Memory) (is : List Input) → series (sample 2) (exMemory σ c) is ≡ map (exScan σ) (series (sample 0) c is)
-series-same = series-sim σ swap (sample 0) (sample 2) same-check same-program whole
+pub series-same : (c : Memory) (is : List Input) → series ec20 (sample 2) (exMemory σ c) is ≡ map (exScan σ) (series ec20 (sample 0) c is)
+series-same = series-sim σ ec20 swap (sample 0) (sample 2) same-check same-program whole
 
 -- and it is not for nothing: the first leaves 100000 in the pair at D0, the second in the pair at D2, and both leave the quotient 33333 at D20
 abbrev after : ℕ → ℕ → ℤ
-after n i = wordAt (scanOf (sample n) 0 100 blank .mem .d) i
+after n i = wordAt (scanFor ec20 (sample n) 0 100 blank .mem .d) i
 
 pub in-D0 : (after 0 0 ≡ pos 1) × (after 0 1 ≡ negℤ (pos 31072)) × (after 0 2 ≡ pos 0) × (after 0 8 ≡ pos 1) × (after 0 21 ≡ negℤ (pos 32203)) × (after 0 23 ≡ pos 1)
 unfolding computing
@@ -129,16 +130,16 @@ unfolding computing
 in-D2 = (refl, refl, refl, refl, refl, refl)
 
 -- D5 is not marked written, and D7950 lies in WORK: no scan changes them, whatever the memory
-accepted : checkOf (sample 0) ≡ Accepted 5 5
+accepted : checkFor ec20 (sample 0) ≡ Accepted 5 5
 unfolding computing
 accepted = refl
 
-unmarked : bitAt (useMapOf (sample 0) .written) 5 ≡ 0
+unmarked : bitAt (mapFor ec20 (sample 0) .written) 5 ≡ 0
 unfolding computing
 unmarked = refl
 
-pub D5-kept : (e budget : ℕ) (c : Memory) → wordAt (scanOf (sample 0) e budget c .mem .d) 5 ≡ wordAt (c .d) 5
-D5-kept = map-kept (sample 0) 5 5 accepted 5 (omega arith) unmarked
+pub D5-kept : (e budget : ℕ) (c : Memory) → wordAt (scanFor ec20 (sample 0) e budget c .mem .d) 5 ≡ wordAt (c .d) 5
+D5-kept = map-kept ec20 (sample 0) 5 5 accepted 5 (omega arith) unmarked
 
-pub D7950-kept : (e budget : ℕ) (c : Memory) → wordAt (scanOf (sample 0) e budget c .mem .d) 7950 ≡ wordAt (c .d) 7950
-D7950-kept = work-kept (sample 0) 5 5 accepted 7950 (omega arith)
+pub D7950-kept : (e budget : ℕ) (c : Memory) → wordAt (scanFor ec20 (sample 0) e budget c .mem .d) 7950 ≡ wordAt (c .d) 7950
+D7950-kept = work-kept ec20 (sample 0) 5 5 accepted 7950 (omega arith)

@@ -13,14 +13,15 @@ use Rattle.ec20.specs.Basics.{pick, one-if}
 use Rattle.ec20.specs.Devices.{kindY, kindM}
 use Rattle.ec20.specs.Operands.{kindIs}
 use Rattle.ec20.specs.Code.{Program}
-use Rattle.ec20.specs.Control.{Controls, controlOf, controlsOf, nextOf, labelOf, orPast}
+use Rattle.ec20.specs.Control.{Controls, controlOf, controlsOf, nextOfFor, firstLabel, orPast}
 use Rattle.ec20.specs.Memory.{Memory, bitsOf, loadBit, storeBit, loadOf}
 use Rattle.ec20.specs.Flow.{isOn, gone, acted, compareOf, coilOf}
 use Rattle.ec20.specs.Timers.{timerOf}
 use Rattle.ec20.specs.Step.{World, going, widthOf, forOf, closeOf, jumpOf, outcomeOf, settle, wordOf, execOf}
 use Rattle.moving.specs.Rename.{Swap, renameOperand, renameInstr, renameProgram, exMemory, exWorld, Along, wordsOf, Whole}
 use Rattle.moving.proofs.Load.{load-sim, along-one}
-use Rattle.moving.proofs.Store.{pick-sim, store-all-sim}
+use Rattle.moving.proofs.Operand.{pick-sim}
+use Rattle.moving.proofs.Store.{store-all-sim}
 use Rattle.moving.proofs.Outcome.{written-one, written-two}
 
 -- loops and jumps see no D number
@@ -63,19 +64,19 @@ module _ (σ : ℕ → ℕ) where
   for-sim p c w =
       pick-sim (exWorld σ) (eqb c 0) _ _ _ _
       (λ _.
-      ap (λ (k : Controls). going (exWorld σ w) (exMemory σ (w .mem)) (gone (w .st) (orPast (p .count) (nextOf k (p .count) (w .st .pc)) + 1) (w .st .depth)))
+      ap (λ (k : Controls). going (exWorld σ w) (exMemory σ (w .mem)) (gone (w .st) (orPast (p .count) (nextOfFor k (p .count) (w .st .pc)) + 1) (w .st .depth)))
       (controls-same σ p))
       (λ _. pick-sim (exWorld σ) (ltb (w .st .depth) 8) _ _ _ _ (λ _. refl) (λ _. refl))
 
   close-sim : (w : World) → closeOf (exWorld σ w) ≡ exWorld σ (closeOf w)
   unfolding closeOf
-  close-sim w = pick-sim (exWorld σ) (ltb 1 (getD (w .left) (w .st .depth - 1) 0)) _ _ _ _ (λ _. refl) (λ _. refl)
+  close-sim w = pick-sim (exWorld σ) (ltb 1 (getD (w .loops .left) (w .st .depth - 1) 0)) _ _ _ _ (λ _. refl) (λ _. refl)
 
   jump-sim : (p : Program) (l : ℕ) (w : World)
       → going (exWorld σ w) (exMemory σ (w .mem)) (jumpOf (renameProgram σ p) l (w .st)) ≡ exWorld σ (going w (w .mem) (jumpOf p l (w .st)))
   unfolding jumpOf
   jump-sim p l w =
-      ap (λ (k : Controls). going (exWorld σ w) (exMemory σ (w .mem)) (gone (w .st) (pick (isOn (w .st)) (orPast (p .count) (labelOf k (p .count) l)) (w .st .pc + 1)) (w .st .depth)))
+      ap (λ (k : Controls). going (exWorld σ w) (exMemory σ (w .mem)) (gone (w .st) (pick (isOn (w .st)) (orPast (p .count) (firstLabel k (p .count) l)) (w .st .pc + 1)) (w .st .depth)))
       (controls-same σ p)
 
   -- of fewer words too

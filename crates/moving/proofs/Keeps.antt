@@ -9,7 +9,7 @@ use lib.IntN.{ℤ}
 use Rattle.ec20.specs.declared.Operand.{Operand}
 use Rattle.ec20.specs.declared.Instr.{Instr}
 use Rattle.ec20.specs.declared.Instr.the-variants.{Nop, Contact, Compare, Join, Branch, Coil, Timer, For, Next, Jump, Label, End, Word}
-use Rattle.ec20.specs.Devices.{kindY, kindM}
+use Rattle.ec20.specs.Devices.{Device, kindY, kindM}
 use Rattle.ec20.specs.Numbers.{half}
 use Rattle.ec20.specs.Operands.{kindIs}
 use Rattle.ec20.specs.Code.{Program}
@@ -70,7 +70,7 @@ module _ (Q : List ℤ → Type 0) where
   exec-keeps p e (Coil n o) w k h = coil-keeps n o (isOn (w .st)) (w .mem) h
   exec-keeps p e (Timer i c) w k h = h
   exec-keeps p e (For c) w k h = picked In (eqb c 0) _ _ (λ _. h) (λ _. picked In (ltb (w .st .depth) 8) _ _ (λ _. h) (λ _. h))
-  exec-keeps p e Next w k h = picked In (ltb 1 (getD (w .left) (w .st .depth - 1) 0)) _ _ (λ _. h) (λ _. h)
+  exec-keeps p e Next w k h = picked In (ltb 1 (getD (w .loops .left) (w .st .depth - 1) 0)) _ _ (λ _. h) (λ _. h)
   exec-keeps p e (Jump l) w k h = h
   exec-keeps p e (Label l) w k h = h
   exec-keeps p e End w k h = h
@@ -88,9 +88,9 @@ module _ (Q : List ℤ → Type 0) where
         picked (λ (r : Run). In (r .after)) (eqb (w .st .ended) 0) _ _ (λ _. run-keeps n (k + 1) (stepOf p e w) (step-keeps w h)) (λ _. h)
 
     -- KEEPS: after the scan as before it
-    pub scan-keeps : (budget : ℕ) (c : Memory) → Q (c .d) → Q (runScan p e budget c .mem .d)
+    pub scan-keeps : (v : Device) (budget : ℕ) (c : Memory) → Q (c .d) → Q (runScan v p e budget c .mem .d)
     unfolding runScan
-    scan-keeps budget c h = run-keeps budget 0 (startWorld c) h
+    scan-keeps v budget c h = run-keeps budget 0 (startWorld v c) (picked Of (v .wakes) _ _ (λ _. h) (λ _. h))
 
 -- each instruction keeps the length of the D table
 pub length-kept : (m : ℕ) (i : Instr) → Keeps (λ (l : List ℤ). length l ≡ m) i
@@ -111,5 +111,5 @@ length-kept m (Word n a b t) = λ x y c h. length-store-all (widthOf n) t (compu
 pub length-step : (p : Program) (e : ℕ) (w : World) → length (stepOf p e w .mem .d) ≡ length (w .mem .d)
 length-step p e w = step-keeps (λ (l : List ℤ). length l ≡ length (w .mem .d)) p e (λ k. length-kept _ (p .code k)) w refl
 
-pub length-scan : (p : Program) (e budget : ℕ) (c : Memory) → length (runScan p e budget c .mem .d) ≡ length (c .d)
-length-scan p e budget c = scan-keeps (λ (l : List ℤ). length l ≡ length (c .d)) p e (λ k. length-kept _ (p .code k)) budget c refl
+pub length-scan : (v : Device) (p : Program) (e budget : ℕ) (c : Memory) → length (runScan v p e budget c .mem .d) ≡ length (c .d)
+length-scan v p e budget c = scan-keeps (λ (l : List ℤ). length l ≡ length (c .d)) p e (λ k. length-kept _ (p .code k)) v budget c refl

@@ -10,14 +10,14 @@ use borrow.Author.Tests.{ltb-true}
 use Rattle.ec20.specs.declared.Instr.{Instr}
 use Rattle.ec20.specs.declared.Verdict.{Verdict}
 use Rattle.ec20.specs.declared.Verdict.the-variants.{Accepted, Refused}
-use Rattle.ec20.specs.Devices.{Device, ec20}
+use Rattle.ec20.specs.Devices.{Device}
 use Rattle.ec20.specs.File.{Records, recordsOf}
 use Rattle.ec20.specs.Code.{Program, codeOf, programOf}
 use Rattle.ec20.specs.Check.{checkFor}
 use Rattle.ec20.specs.Registers.{wordAt}
 use Rattle.ec20.specs.Memory.{Memory}
 use Rattle.ec20.specs.Step.{World, execOf}
-use Rattle.ec20.specs.Scan.{Scan, runScan, fitting, scanIf, scanFor, scanOf}
+use Rattle.ec20.specs.Scan.{Scan, runScan, fitting, scanIf, scanFor}
 use Rattle.ec20.specs.UseMap.{recordHas, someRecord, markedWritten}
 use Rattle.ec20.proofs.Some.{none-at}
 use Rattle.ec20.proofs.Tests.{picked}
@@ -26,7 +26,7 @@ use Rattle.moving.proofs.Keeps.{exec-keeps, scan-keeps}
 use Rattle.moving.proofs.Spared.{Spared, spared-keeps}
 use Rattle.moving.proofs.Targets.{Marks, record-spares}
 
-module _ (i : ℕ) where
+module _ (v : Device) (i : ℕ) where
   -- an instruction that does not write word i leaves it as it was
   pub exec-kept : (p : Program) (e : ℕ) (c : Instr) (w : World) → Spared i c → wordAt (execOf p e c w .mem .d) i ≡ wordAt (w .mem .d) i
   exec-kept p e c w s =
@@ -34,9 +34,9 @@ module _ (i : ℕ) where
 
   -- so does a run of a program of which no instruction writes it
   pub run-kept : (p : Program) → ((k : ℕ) → Spared i (p .code k)) → (e budget : ℕ) (c : Memory)
-      → wordAt (runScan p e budget c .mem .d) i ≡ wordAt (c .d) i
+      → wordAt (runScan v p e budget c .mem .d) i ≡ wordAt (c .d) i
   run-kept p spared e budget c =
-      scan-keeps (λ (l : List ℤ). wordAt l i ≡ wordAt (c .d) i) p e (λ k. spared-keeps i (wordAt (c .d) i) (p .code k) (spared k)) budget c refl
+      scan-keeps (λ (l : List ℤ). wordAt l i ≡ wordAt (c .d) i) p e (λ k. spared-keeps i (wordAt (c .d) i) (p .code k) (spared k)) v budget c refl
 
   -- no instruction of the program writes a word that is not marked
   code-spares : (rs : Records) → markedWritten rs i ≡ false → (k : ℕ) → Spared i (codeOf rs k)
@@ -48,26 +48,26 @@ module _ (i : ℕ) where
       record-spares i (rs .at k) (none-at (λ j. recordHas (Marks i) (rs .at j)) 0 (rs .count) e k (omega arith) (omega arith)))
       (λ _. tt)
 
-  if-keeps : (v : Device) (a : Verdict) (p : Program) → ((k : ℕ) → Spared i (p .code k)) → (e budget : ℕ) (c : Memory)
+  if-keeps : (a : Verdict) (p : Program) → ((k : ℕ) → Spared i (p .code k)) → (e budget : ℕ) (c : Memory)
       → wordAt (scanIf v a p e budget c .mem .d) i ≡ wordAt (c .d) i
-  if-keeps v (Accepted n s) p spared e budget c =
+  if-keeps (Accepted n s) p spared e budget c =
       picked (λ (s : Scan). wordAt (s .mem .d) i ≡ wordAt (c .d) i) (fitting v e c) _ _
       (λ _. run-kept p spared e budget c)
       (λ _. refl)
-  if-keeps v (Refused n k) p spared e budget c = refl
+  if-keeps (Refused n k) p spared e budget c = refl
 
-  -- KEPT: a word that no record marks written is after a scan what it was, for every file, accepted or not, elapsed time, budget and memory
+  -- KEPT: a word that no record marks written is after a scan what it was, for every device, file, accepted or not, elapsed time, budget and memory
   pub kept : (f : List ℕ) → markedWritten (recordsOf f) i ≡ false → (e budget : ℕ) (c : Memory)
-      → wordAt (scanOf f e budget c .mem .d) i ≡ wordAt (c .d) i
-  unfolding scanOf scanFor programOf
-  kept f h e budget c = if-keeps ec20 (checkFor ec20 f) (programOf f) (code-spares (recordsOf f) h) e budget c
+      → wordAt (scanFor v f e budget c .mem .d) i ≡ wordAt (c .d) i
+  unfolding scanFor programOf
+  kept f h e budget c = if-keeps (checkFor v f) (programOf f) (code-spares (recordsOf f) h) e budget c
 
   -- and after each scan of a series what it was before the first
   pub series-kept : (f : List ℕ) → markedWritten (recordsOf f) i ≡ false → (c : Memory) (is : List Input)
-      → map (λ (s : Scan). wordAt (s .mem .d) i) (series f c is) ≡ map (λ (_ : Input). wordAt (c .d) i) is
+      → map (λ (s : Scan). wordAt (s .mem .d) i) (series v f c is) ≡ map (λ (_ : Input). wordAt (c .d) i) is
   unfolding series
   series-kept f h c [] = refl
   series-kept f h c (j ∷ rest) =
-      let s = scanWith f c j in
+      let s = scanWith v f c j in
       let e : wordAt (s .mem .d) i ≡ wordAt (c .d) i = kept f h (j .elapsed) (j .budget) (withX c (j .x)) in
       ap₂ _∷_ e (series-kept f h (s .mem) rest ∙ ap (λ (z : ℤ). map (λ (_ : Input). z) rest) e)

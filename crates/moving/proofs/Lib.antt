@@ -2,6 +2,7 @@
 -- The exchanged table, and numbers in it; operands and outcomes, renamed; an instruction
 pub mod Exchange
 pub mod Numbers
+pub mod Operand
 pub mod Load
 pub mod Store
 pub mod Outcome

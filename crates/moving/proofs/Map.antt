@@ -7,14 +7,14 @@ use native.Mathlib.Omega.{arith}
 use Rattle.ec20.specs.declared.Verdict.{Verdict}
 use Rattle.ec20.specs.declared.Verdict.the-variants.{Accepted}
 use Rattle.ec20.specs.Basics.{one-if}
-use Rattle.ec20.specs.Devices.{Device, ec20}
+use Rattle.ec20.specs.Devices.{Device}
 use Rattle.ec20.specs.Bits.{bitOf, bitAt}
 use Rattle.ec20.specs.File.{recordsOf}
-use Rattle.ec20.specs.Check.{checkOf}
+use Rattle.ec20.specs.Check.{checkFor}
 use Rattle.ec20.specs.Registers.{wordAt}
 use Rattle.ec20.specs.Memory.{Memory}
-use Rattle.ec20.specs.Scan.{scanOf}
-use Rattle.ec20.specs.UseMap.{markedWritten, packedBy, mapOf, mapIf, mapFor, useMapOf}
+use Rattle.ec20.specs.Scan.{scanFor}
+use Rattle.ec20.specs.UseMap.{markedWritten, packedBy, mapOf, mapIf, mapFor}
 use Rattle.ec20.proofs.MovedLaws.{getD-from}
 use Rattle.ec20.proofs.Tests.{one-small}
 use Rattle.moving.proofs.Kept.{kept}
@@ -49,13 +49,13 @@ off : (b : Bool) → one-if b ≡ 0 → b ≡ false
 off true e = absurd (omega arith)
 off false e = refl
 
--- the map of an accepted file marks written what its records mark written
-pub written-bit : (f : List ℕ) (n w : ℕ) → checkOf f ≡ Accepted n w → (i : ℕ) → i < 8000 → bitAt (useMapOf f .written) i ≡ one-if (markedWritten (recordsOf f) i)
-unfolding useMapOf mapFor checkOf
-written-bit f n w ok i l =
-    ap (λ (a : Verdict). bitAt (mapIf ec20 a (recordsOf f) .written) i) ok ∙ map-bit ec20 (markedWritten (recordsOf f)) i (omega arith)
+-- of a device whose words are a multiple of eight, each has its bit: the map of an accepted file marks written what its records mark written
+module _ (v : Device) (f : List ℕ) (n w : ℕ) (ok : checkFor v f ≡ Accepted n w) (i : ℕ) (l : i < 8 * (v .words / 8)) where
+  pub written-bit : bitAt (mapFor v f .written) i ≡ one-if (markedWritten (recordsOf f) i)
+  unfolding mapFor
+  written-bit = ap (λ (a : Verdict). bitAt (mapIf v a (recordsOf f) .written) i) ok ∙ map-bit v (markedWritten (recordsOf f)) i l
 
--- MAP: a word that the use map of an accepted file does not mark written is after a scan what it was, for every elapsed time, budget and memory
-pub map-kept : (f : List ℕ) (n w : ℕ) → checkOf f ≡ Accepted n w → (i : ℕ) → i < 8000 → bitAt (useMapOf f .written) i ≡ 0 → (e budget : ℕ) (c : Memory)
-    → wordAt (scanOf f e budget c .mem .d) i ≡ wordAt (c .d) i
-map-kept f n w ok i l h e budget c = kept i f (off (markedWritten (recordsOf f) i) (sym (written-bit f n w ok i l) ∙ h)) e budget c
+  -- MAP: a word that the use map of an accepted file does not mark written is after a scan what it was, for every device, elapsed time, budget
+  -- and memory
+  pub map-kept : bitAt (mapFor v f .written) i ≡ 0 → (e budget : ℕ) (c : Memory) → wordAt (scanFor v f e budget c .mem .d) i ≡ wordAt (c .d) i
+  map-kept h e budget c = kept v i f (off (markedWritten (recordsOf f) i) (sym written-bit ∙ h)) e budget c

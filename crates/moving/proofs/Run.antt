@@ -2,13 +2,15 @@
 use Prim.Native.Nat.{ℕ, zero, suc, _+_}
 use mathlib.Core.Path.{_≡_, refl, sym, ap, subst, _∙_}
 use lib.Dec.{eqb}
-use lib.ListN.{length}
+use lib.ListN.{length, replicate}
 use Rattle.ec20.specs.Code.{Program}
+use Rattle.ec20.specs.Devices.{Device, deepest}
 use Rattle.ec20.specs.Memory.{Memory}
-use Rattle.ec20.specs.Step.{World, stepOf}
-use Rattle.ec20.specs.Scan.{Run, runOf, startWorld, reported, runScan}
+use Rattle.ec20.specs.Step.{World, world, openLoops, stepOf}
+use Rattle.ec20.specs.Scan.{Run, runOf, startState, woken, startWorld, reported, runScan}
+use Rattle.ec20.proofs.Tests.{picked}
 use Rattle.moving.specs.Rename.{Swap, renameProgram, exMemory, exWorld, exScan, Whole}
-use Rattle.moving.proofs.Store.{pick-sim}
+use Rattle.moving.proofs.Operand.{pick-sim}
 use Rattle.moving.proofs.Exec.{exec-sim}
 use Rattle.moving.proofs.Keeps.{length-step}
 
@@ -31,8 +33,18 @@ module _ (σ : ℕ → ℕ) (p : Program) (whole : (k : ℕ) → Whole σ (p .co
       ∙ run-sim n (k + 1) (stepOf p e w) (subst (Swap σ) (sym (length-step p e w)) h))
       (λ _. refl)
 
-  -- RUN: the same report from the exchanged table, and the memory after it is the exchanged one, for every budget and memory
-  pub run-scan-sim : (budget : ℕ) (c : Memory) → Swap σ (length (c .d))
-      → runScan (renameProgram σ p) e budget (exMemory σ c) ≡ exScan σ (runScan p e budget c)
-  unfolding runScan
-  run-scan-sim budget c h = ap reported (run-sim budget 0 (startWorld c) h)
+  module _ (v : Device) where
+    -- what turns SM0 on changes no word
+    woken-sim : (c : Memory) → woken v (exMemory σ c) ≡ exMemory σ (woken v c)
+    woken-sim c = pick-sim (exMemory σ) (v .wakes) _ _ _ _ (λ _. refl) (λ _. refl)
+
+    start-sim : (c : Memory) → startWorld v (exMemory σ c) ≡ exWorld σ (startWorld v c)
+    start-sim c = ap (λ (k : Memory). world k (openLoops (replicate deepest 0) (replicate deepest 0)) startState) (woken-sim c)
+
+    -- RUN: the same report from the exchanged table, and the memory after it is the exchanged one, for every device, budget and memory
+    pub run-scan-sim : (budget : ℕ) (c : Memory) → Swap σ (length (c .d))
+        → runScan v (renameProgram σ p) e budget (exMemory σ c) ≡ exScan σ (runScan v p e budget c)
+    unfolding runScan
+    run-scan-sim budget c h =
+        let k : Swap σ (length (woken v c .d)) = picked (λ (k : Memory). Swap σ (length (k .d))) (v .wakes) _ _ (λ _. h) (λ _. h) in
+        ap (λ (w : World). reported (runOf (renameProgram σ p) e budget 0 w)) (start-sim c) ∙ ap reported (run-sim budget 0 (startWorld v c) k)

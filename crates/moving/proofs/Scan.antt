@@ -1,5 +1,5 @@
 -- THE MOVE, for one scan: the renamed program's file on the exchanged table is answered as the file on the table.
-use Prim.Native.Nat.{ℕ}
+use Prim.Native.Nat.{ℕ, _/_}
 use mathlib.Core.Bool.{true, _&&_}
 use mathlib.Core.List.{List}
 use mathlib.Core.Path.{_≡_, refl, sym, ap, subst, _∙_}
@@ -8,15 +8,15 @@ use lib.ListN.{length}
 use borrow.Author.Tests.{eqb-true}
 use Rattle.ec20.specs.declared.Verdict.{Verdict}
 use Rattle.ec20.specs.declared.Verdict.the-variants.{Accepted, Refused}
-use Rattle.ec20.specs.Devices.{Device, ec20}
+use Rattle.ec20.specs.Devices.{Device}
 use Rattle.ec20.specs.Code.{Program, programOf}
-use Rattle.ec20.specs.Check.{checkFor, checkOf}
+use Rattle.ec20.specs.Check.{checkFor}
 use Rattle.ec20.specs.Memory.{Memory, sized}
-use Rattle.ec20.specs.Scan.{fitting, scanIf, scanFor, scanOf}
+use Rattle.ec20.specs.Scan.{fitting, scanIf, scanFor}
 use Rattle.ec20.proofs.Tests.{both}
 use Rattle.moving.specs.Rename.{Swap, renameProgram, exMemory, exScan, Whole}
 use Rattle.moving.proofs.Exchange.{length-exchangeBy}
-use Rattle.moving.proofs.Store.{pick-sim}
+use Rattle.moving.proofs.Operand.{pick-sim}
 use Rattle.moving.proofs.Run.{run-scan-sim}
 
 -- the exchange changes no size
@@ -29,10 +29,11 @@ pub fitting-words : (v : Device) (e : ℕ) (c : Memory) → fitting v e c ≡ tr
 unfolding fitting sized
 fitting-words v e c h =
     let before =
-    eqb (length (c .x)) 32 && eqb (length (c .y)) 32 && eqb (length (c .m)) 250 && eqb (length (c .sm)) 32 && eqb (length (c .t)) 32 in
+    eqb (length (c .x)) (v .x / 8) && eqb (length (c .y)) (v .y / 8) && eqb (length (c .m)) (v .m / 8) && eqb (length (c .sm)) (v .sm / 8)
+    && eqb (length (c .t)) (v .t / 8) in
     let words = eqb (length (c .d)) (v .words) in
     let all = both (sized v c) (leb e 32767) h .0 in
-    eqb-true _ _ (both before words (both (before && words) (eqb (length (c .tv)) 256) all .0) .1)
+    eqb-true _ _ (both before words (both (before && words) (eqb (length (c .tv)) (v .t)) all .0) .1)
 
 module _ (σ : ℕ → ℕ) (v : Device) (h : Swap σ (v .words)) where
   if-sim : (a : Verdict) (p : Program) → ((k : ℕ) → Whole σ (p .code k)) → (e budget : ℕ) (c : Memory)
@@ -40,24 +41,17 @@ module _ (σ : ℕ → ℕ) (v : Device) (h : Swap σ (v .words)) where
   if-sim (Accepted n s) p whole e budget c =
       rw (fitting-same σ v e c)
       (pick-sim (exScan σ) (fitting v e c) _ _ _ _
-      (λ q. run-scan-sim σ p whole e budget c (subst (Swap σ) (sym (fitting-words v e c q)) h))
+      (λ q. run-scan-sim σ p whole e v budget c (subst (Swap σ) (sym (fitting-words v e c q)) h))
       (λ _. refl))
   if-sim (Refused n k) p whole e budget c = refl
 
-  -- on any device
-  pub scan-for-sim : (f g : List ℕ) → checkFor v g ≡ checkFor v f → programOf g ≡ renameProgram σ (programOf f) → ((k : ℕ) → Whole σ (programOf f .code k))
+  -- SCAN: two files of which the check says the same, the second's program the first's renamed by a swap of the D numbers that leaves no
+  -- extent divided. For every memory, elapsed time and budget a scan of the second on the exchanged table answers as a scan of the first
+  -- on the table, and leaves the exchanged memory. Refused calls are no exception.
+  pub scan-sim : (f g : List ℕ) → checkFor v g ≡ checkFor v f → programOf g ≡ renameProgram σ (programOf f) → ((k : ℕ) → Whole σ (programOf f .code k))
       → (e budget : ℕ) (c : Memory) → scanFor v g e budget (exMemory σ c) ≡ exScan σ (scanFor v f e budget c)
   unfolding scanFor
-  scan-for-sim f g a b whole e budget c =
+  scan-sim f g a b whole e budget c =
       ap (λ (r : Verdict). scanIf v r (programOf g) e budget (exMemory σ c)) a
       ∙ ap (λ (p : Program). scanIf v (checkFor v f) p e budget (exMemory σ c)) b
       ∙ if-sim (checkFor v f) (programOf f) whole e budget c
-
--- SCAN: two files of which the check says the same, the second's program the first's renamed by a swap of the D numbers that leaves no
--- extent divided. For every memory, elapsed time and budget a scan of the second on the exchanged table answers as a scan of the first
--- on the table, and leaves the exchanged memory. Refused calls are no exception.
-pub scan-sim : (σ : ℕ → ℕ) → Swap σ 8000 → (f g : List ℕ) → checkOf g ≡ checkOf f → programOf g ≡ renameProgram σ (programOf f)
-    → ((k : ℕ) → Whole σ (programOf f .code k)) → (e budget : ℕ) (c : Memory)
-    → scanOf g e budget (exMemory σ c) ≡ exScan σ (scanOf f e budget c)
-unfolding scanOf checkOf
-scan-sim σ h f g a b whole e budget c = scan-for-sim σ ec20 h f g a b whole e budget c

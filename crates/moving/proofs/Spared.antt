@@ -2,7 +2,7 @@
 use Prim.Native.Nat.{ℕ, _+_, _*_, _/_, _≤_, _<_}
 use mathlib.Core.Bool.{Bool, true, false}
 use mathlib.Core.List.{List}
-use mathlib.Core.Path.{_≡_, subst, _∙_}
+use mathlib.Core.Path.{_≡_, sym, ap, subst, _∙_}
 use native.Mathlib.Omega.{arith}
 use lib.Dec.{eqb}
 use lib.ListN.{set}
@@ -14,15 +14,15 @@ use Rattle.ec20.specs.declared.Outcome.{Outcome}
 use Rattle.ec20.specs.declared.Instr.{Instr}
 use Rattle.ec20.specs.declared.Instr.the-variants.{Nop, Contact, Compare, Join, Branch, Coil, Timer, For, Next, Jump, Label, End, Word}
 use Rattle.ec20.specs.Basics.{pick}
-use Rattle.ec20.specs.Devices.{kindY, kindM, kindD}
 use Rattle.ec20.specs.Numbers.{half}
-use Rattle.ec20.specs.Operands.{kindIs}
+use Rattle.ec20.specs.Operands.{inD, startOf}
 use Rattle.ec20.specs.Registers.{wordAt, highWord, lowWord, withPair, withNumber}
 use Rattle.ec20.specs.Memory.{Memory, storeOf, following}
 use Rattle.ec20.specs.Words.{computeOf, storeAll}
 use Rattle.ec20.specs.Step.{widthOf}
 use Rattle.ec20.proofs.Tests.{picked}
 use Rattle.moving.specs.Rename.{wordsOf, writtenBy}
+use Rattle.moving.proofs.Operand.{in-or-not, store-D, store-kept, follow-in, follow-start}
 use Rattle.moving.proofs.Outcome.{written-one, written-two}
 use Rattle.moving.proofs.Keeps.{Keeps}
 
@@ -30,9 +30,9 @@ use Rattle.moving.proofs.Keeps.{Keeps}
 abbrev pub Off : ℕ → ℕ → ℕ → Type 0
 Off i n a = (j : ℕ) → j < n → i ≡ a + j → ⊥
 
--- if the operand is D, word i is none of its n words
+-- if the operand is in D, word i is none of its n words
 abbrev pub Spares : ℕ → ℕ → Operand → Type 0
-Spares i n o = o .kind ≡ kindD → Off i n (o .value)
+Spares i n o = inD o ≡ true → Off i n (startOf o)
 
 -- the instruction does not write word i
 abbrev pub Spared : ℕ → Instr → Type 0
@@ -72,11 +72,16 @@ module _ (i : ℕ) where
     Holds c = wordAt (c .d) i ≡ v
 
     store-spares : (w : ℕ) (o : Operand) (z : ℤ) (c : Memory) → Spares i (wordsOf w) o → Holds c → Holds (storeOf w o z c)
-    unfolding storeOf
     store-spares w o z c s h =
-        picked Holds (kindIs kindD o) _ _
-        (λ q. number-off w (c .d) (o .value) z (s (eqb-true _ _ q)) ∙ h)
-        (λ _. picked Holds (kindIs kindY o) _ _ (λ _. h) (λ _. picked Holds (kindIs kindM o) _ _ (λ _. h) (λ _. h)))
+        in-or-not o
+        (λ e. ap (λ (k : Memory). wordAt (k .d) i) (store-D w o z c e) ∙ number-off w (c .d) (startOf o) z (s e) ∙ h)
+        (λ e. ap (λ (l : List ℤ). wordAt l i) (store-kept w o z c e) ∙ h)
+
+    -- the words of the target that follows are the later ones
+    later : (w : ℕ) (t : Operand) → Spares i (2 * wordsOf w) t → Spares i (wordsOf w) (following w t)
+    later w t s k j l e =
+        let f : startOf (following w t) ≡ startOf t + wordsOf w = follow-start w t in
+        s (sym (follow-in w t) ∙ k) (wordsOf w + j) (omega arith) (omega arith)
 
     store-all-spares : (w : ℕ) (t : Operand) (r : Outcome) (c : Memory) → Spares i (wordsOf w) t → (r .two ≡ 1 → Spares i (2 * wordsOf w) t) → Holds c
         → Holds (storeAll w t r c)
@@ -86,7 +91,7 @@ module _ (i : ℕ) where
         let one : Holds c1 = store-spares w t (r .value) c a h in
         let two : Holds (pick (eqb (r .two) 1) (storeOf w (following w t) (r .second) c1) c1) =
         picked Holds (eqb (r .two) 1) _ _
-        (λ q. store-spares w (following w t) (r .second) c1 (λ k j l e. b (eqb-true _ _ q) k (wordsOf w + j) (omega arith) (omega arith)) one)
+        (λ q. store-spares w (following w t) (r .second) c1 (later w t (b (eqb-true _ _ q))) one)
         (λ _. one) in
         picked Holds (eqb (r .flags) 1) _ _ (λ _. two) (λ _. two)
 
@@ -109,4 +114,4 @@ module _ (i : ℕ) where
         let r = computeOf n (half (widthOf n)) x y in
         let m : wordsOf (widthOf n) ≤ w = written-one n in
         store-all-spares (widthOf n) t r c (λ k j l. s k j (omega arith))
-        (λ q k. subst (λ (e : ℕ). Off i e (t .value)) (written-two n (half (widthOf n)) x y q) (s k)) h
+        (λ q k. subst (λ (e : ℕ). Off i e (startOf t)) (written-two n (half (widthOf n)) x y q) (s k)) h

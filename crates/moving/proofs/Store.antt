@@ -1,9 +1,9 @@
 -- A target written on the exchanged table, renamed, is the target written on the table and the table then exchanged. The D table keeps its length.
 use Prim.Native.Nat.{ℕ, _+_, _*_, _/_, _<_}
 use mathlib.Core.Bool.{Bool, true, false}
+use mathlib.Core.List.{List}
 use mathlib.Core.Path.{_≡_, refl, sym, ap, subst, _∙_}
 use native.Mathlib.Omega.{arith}
-use native.Mathlib.Decide.{ℕ-discrete}
 use lib.Dec.{eqb}
 use lib.ListN.{length}
 use lib.IntN.{ℤ}
@@ -11,21 +11,15 @@ use borrow.Author.Tests.{eqb-true}
 use Rattle.ec20.specs.declared.Operand.{Operand}
 use Rattle.ec20.specs.declared.Outcome.{Outcome}
 use Rattle.ec20.specs.Basics.{pick}
-use Rattle.ec20.specs.Devices.{kindY, kindM, kindD}
-use Rattle.ec20.specs.Operands.{kindIs}
+use Rattle.ec20.specs.Operands.{inD, startOf}
 use Rattle.ec20.specs.Registers.{withNumber}
 use Rattle.ec20.specs.Memory.{Memory, withD, storeOf, following}
 use Rattle.ec20.specs.Words.{storeAll}
 use Rattle.ec20.proofs.Tests.{picked}
-use Rattle.moving.specs.Rename.{Swap, renameOperand, exMemory, Along, wordsOf}
+use Rattle.moving.specs.Rename.{Swap, renameOperand, exchangeBy, exMemory, Along, wordsOf}
 use Rattle.moving.proofs.Numbers.{length-number, number-write}
-use Rattle.moving.proofs.Load.{rename-D, rename-other}
-
--- what goes along on both sides of a test goes along
-pub pick-sim {ℓ} : {A : Type ℓ} (g : A → A) (t : Bool) (x y x′ y′ : A) → (t ≡ true → x′ ≡ g x) → (t ≡ false → y′ ≡ g y)
-    → pick t x′ y′ ≡ g (pick t x y)
-pick-sim g true x y x′ y′ p q = p refl
-pick-sim g false x y x′ y′ p q = q refl
+use Rattle.moving.proofs.Operand.{pick-sim, in-or-not, rename-other, rename-in, rename-start, store-D, store-other, store-kept}
+use Rattle.moving.proofs.Operand.{follow-in, follow-start, follow-D, follow-other}
 
 -- the D table is of n words
 abbrev Long : ℕ → Memory → Type 0
@@ -33,11 +27,10 @@ Long n c = length (c .d) ≡ n
 
 -- a store keeps the D table's length
 pub length-store : (w : ℕ) (o : Operand) (z : ℤ) (c : Memory) → length (storeOf w o z c .d) ≡ length (c .d)
-unfolding storeOf
 length-store w o z c =
-    picked (Long (length (c .d))) (kindIs kindD o) _ _
-    (λ _. length-number w (c .d) (o .value) z)
-    (λ _. picked (Long (length (c .d))) (kindIs kindY o) _ _ (λ _. refl) (λ _. picked (Long (length (c .d))) (kindIs kindM o) _ _ (λ _. refl) (λ _. refl)))
+    in-or-not o
+    (λ e. ap (λ (k : Memory). length (k .d)) (store-D w o z c e) ∙ length-number w (c .d) (startOf o) z)
+    (λ e. ap length (store-kept w o z c e))
 
 pub length-store-all : (w : ℕ) (t : Operand) (r : Outcome) (c : Memory) → length (storeAll w t r c .d) ≡ length (c .d)
 unfolding storeAll
@@ -48,35 +41,22 @@ length-store-all w t r c =
     picked (Long (length (c .d))) (eqb (r .two) 1) _ _ (λ _. length-store w (following w t) (r .second) c1 ∙ one) (λ _. one) in
     picked (Long (length (c .d))) (eqb (r .flags) 1) _ _ (λ _. two) (λ _. two)
 
--- what a target of D becomes
-pub store-D : (w k g v : ℕ) (z : ℤ) (c : Memory) → k ≡ kindD
-    → storeOf w (record { kind = k; group = g; value = v }) z c ≡ withD c (withNumber w (c .d) v z)
-unfolding storeOf
-store-D w k g v z c e =
-    subst (λ (j : ℕ). storeOf w (record { kind = j; group = g; value = v }) z c ≡ withD c (withNumber w (c .d) v z)) (sym e) refl
-
 module _ (σ : ℕ → ℕ) (w : ℕ) where
-  -- any other target writes nothing of D
-  store-other : (o : Operand) (z : ℤ) (c : Memory) → (o .kind ≡ kindD → ⊥) → storeOf w o z (exMemory σ c) ≡ exMemory σ (storeOf w o z c)
-  unfolding storeOf
-  store-other o z c e =
-      pick-sim (exMemory σ) (kindIs kindD o) _ _ _ _
-      (λ q. absurd (e (eqb-true _ _ q)))
-      (λ _. pick-sim (exMemory σ) (kindIs kindY o) _ _ _ _ (λ _. refl) (λ _. pick-sim (exMemory σ) (kindIs kindM o) _ _ _ _ (λ _. refl) (λ _. refl)))
-
   -- STORE: for every width
   pub store-sim : (o : Operand) (z : ℤ) (c : Memory) → Along σ (wordsOf w) o → Swap σ (length (c .d))
       → storeOf w (renameOperand σ o) z (exMemory σ c) ≡ exMemory σ (storeOf w o z c)
   unfolding Along
   store-sim o z c a h =
-      elim (ℕ-discrete (o .kind) kindD) [
-        | yes e ↦
-            ap (λ (q : Operand). storeOf w q z (exMemory σ c)) (rename-D σ o e)
-            ∙ store-D w (o .kind) (o .group) (σ (o .value)) z (exMemory σ c) e
-            ∙ ap (withD c) (number-write σ (c .d) h (o .value) w z (a e))
-            ∙ ap (exMemory σ) (sym (store-D w (o .kind) (o .group) (o .value) z c e))
-        | no e ↦ ap (λ (q : Operand). storeOf w q z (exMemory σ c)) (rename-other σ o e) ∙ store-other o z c e
-      ]
+      in-or-not o
+      (λ e.
+      store-D w (renameOperand σ o) z (exMemory σ c) (rename-in σ o ∙ e)
+      ∙ ap (λ (i : ℕ). withD c (withNumber w (exchangeBy σ (c .d)) i z)) (rename-start σ o e)
+      ∙ ap (withD c) (number-write σ (c .d) h (startOf o) w z (a e))
+      ∙ ap (exMemory σ) (sym (store-D w o z c e)))
+      (λ e.
+      ap (λ (q : Operand). storeOf w q z (exMemory σ c)) (rename-other σ o e)
+      ∙ store-other w o z c (exchangeBy σ (c .d)) e
+      ∙ ap (λ (l : List ℤ). withD (storeOf w o z c) (exchangeBy σ l)) (sym (store-kept w o z c e)))
 
   words-some : (b : Bool) → 0 < pick b 16 32 / 16
   words-some true = omega arith
@@ -87,22 +67,18 @@ module _ (σ : ℕ → ℕ) (w : ℕ) where
   unfolding Along
   follow-same o a =
       let s : 0 < wordsOf w = words-some (eqb w 16) in
-      elim (ℕ-discrete (o .kind) kindD) [
-        | yes e ↦
-            ap (following w) (rename-D σ o e)
-            ∙ ap (λ (v : ℕ). record { kind = o .kind; group = o .group; value = v }) (sym (a e (wordsOf w) (omega arith)))
-            ∙ sym (rename-D σ (following w o) e)
-        | no e ↦ ap (following w) (rename-other σ o e) ∙ sym (rename-other σ (following w o) e)
-      ]
+      in-or-not o (λ e. follow-D w o σ e (a e (wordsOf w) (omega arith))) (follow-other w o σ)
 
   follow-along : (o : Operand) → Along σ (2 * wordsOf w) o → Along σ (wordsOf w) (following w o)
   unfolding Along
   follow-along o a e j l =
       let s : 0 < wordsOf w = words-some (eqb w 16) in
-      let q : o .value + wordsOf w + j ≡ o .value + (wordsOf w + j) = omega arith in
-      let x : σ (o .value + (wordsOf w + j)) ≡ σ (o .value) + (wordsOf w + j) = a e (wordsOf w + j) (omega arith) in
-      let y : σ (o .value + wordsOf w) ≡ σ (o .value) + wordsOf w = a e (wordsOf w) (omega arith) in
-      ap σ q ∙ let g : σ (o .value + (wordsOf w + j)) ≡ σ (o .value + wordsOf w) + j = omega arith in g
+      let k : inD o ≡ true = sym (follow-in w o) ∙ e in
+      let q : startOf o + wordsOf w + j ≡ startOf o + (wordsOf w + j) = omega arith in
+      let x : σ (startOf o + (wordsOf w + j)) ≡ σ (startOf o) + (wordsOf w + j) = a k (wordsOf w + j) (omega arith) in
+      let y : σ (startOf o + wordsOf w) ≡ σ (startOf o) + wordsOf w = a k (wordsOf w) (omega arith) in
+      let g : σ (startOf o + (wordsOf w + j)) ≡ σ (startOf o + wordsOf w) + j = omega arith in
+      subst (λ (i : ℕ). σ (i + j) ≡ σ i + j) (sym (follow-start w o)) (ap σ q ∙ g)
 
   -- an outcome stored: the value, the second value after it if there are two, the flags
   pub store-all-sim : (t : Operand) (r : Outcome) (c : Memory) → Along σ (wordsOf w) t → (r .two ≡ 1 → Along σ (2 * wordsOf w) t) → Swap σ (length (c .d))

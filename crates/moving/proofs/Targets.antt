@@ -4,21 +4,25 @@ use mathlib.Core.Bool.{Bool, true, false, _&&_, _||_}
 use mathlib.Core.List.{List, [], _∷_}
 use mathlib.Core.Path.{_≡_, refl, sym, ap, ap₂, subst, _∙_}
 use native.Mathlib.Omega.{arith}
-use lib.Dec.{eqb, leb, ltb}
+use lib.Dec.{eqb}
 use lib.ListN.{getD}
-use borrow.Author.Tests.{eqb-true, eq-eqb, le-leb, lt-ltb}
+use borrow.Author.Tests.{eqb-true}
 use Rattle.ec20.specs.declared.Operand.{Operand}
 use Rattle.ec20.specs.declared.Place.{Place}
 use Rattle.ec20.specs.declared.Row.{Row}
 use Rattle.ec20.specs.declared.Rec.{Rec}
 use Rattle.ec20.specs.Basics.{pick}
-use Rattle.ec20.specs.Devices.{within}
-use Rattle.ec20.specs.Table.{table, rowOf, unknown, isWritten, formContact, formJoin, formBranch, formCoil, formCompare, formTimer, formFor, formNext, formJump, formLabel, formEnd, formThree, formTwo, formOne}
+use Rattle.ec20.specs.Operands.{startOf, extentOf}
+use Rattle.ec20.specs.Table.{table, rowOf, unknown}
+use Rattle.ec20.specs.Forms.{formContact, formJoin, formBranch, formCoil, formCompare, formTimer, formFor, formNext, formJump, formLabel, formEnd, formThree, formTwo, formOne}
+use Rattle.ec20.specs.Roles.{isWritten}
 use Rattle.ec20.specs.Code.{instrBy, instrOf}
 use Rattle.ec20.specs.Words.{is}
 use Rattle.ec20.specs.UseMap.{holds, someOperand, recordHas}
+use Rattle.ec20.proofs.Ranges.{within-yes}
 use Rattle.ec20.proofs.Tests.{both, neither, differ, picked}
 use Rattle.moving.specs.Rename.{wordsOf, writtenBy}
+use Rattle.moving.proofs.Operand.{extent-place}
 use Rattle.moving.proofs.Spared.{Spares, Spared}
 
 -- ---- the table: the target of a word instruction is a place that is written, and its extent is what the instruction writes
@@ -70,13 +74,12 @@ second-of false a b e h = h
 
 -- a target that does not mark word i spares it
 place-spares : (i n : ℕ) (w : Row) (p : Place) (o : Operand) → w ≡ rowOf n → target-ok n w p ≡ true → Marks i p o ≡ false → Spares i (writtenBy n) o
-unfolding holds within
+unfolding holds
 place-spares i n w p o r ok e k j l q =
     let a = both (isWritten p) _ ok in
     let x : p .extent ≡ writtenBy n = eqb-true _ _ (a .1) ∙ ap (λ (u : Row). pick (is n 35 52) (2 * wordsOf (u .first .width)) (wordsOf (u .first .width))) r in
-    let y : leb (o .value) i ≡ true = le-leb (o .value) i (omega arith) in
-    let z : ltb i (o .value + p .extent) ≡ true = lt-ltb i (o .value + p .extent) (omega arith) in
-    differ (sym (ap₂ _&&_ (a .0) (ap₂ _&&_ (eq-eqb _ _ k) (ap₂ _&&_ y z))) ∙ e)
+    let y : extentOf p o ≡ p .extent = extent-place p o in
+    differ (sym (ap₂ _&&_ (a .0) (ap₂ _&&_ k (within-yes (startOf o) (extentOf p o) i (omega arith) (omega arith)))) ∙ e)
 
 -- a record that does not mark word i makes an instruction that does not write it
 pub record-spares : (i : ℕ) (r : Rec) → recordHas (Marks i) r ≡ false → Spared i (instrOf r)

@@ -7,21 +7,20 @@ use native.Mathlib.Omega.{arith}
 use native.Mathlib.Decide.{decLt}
 use lib.ListN.{length, List·getD-eq-default}
 use lib.IntN.{pos}
-use borrow.Author.Tests.{eqb-true}
 use Rattle.ec20.specs.declared.Operand.{Operand}
 use Rattle.ec20.specs.declared.Place.{Place}
 use Rattle.ec20.specs.declared.Rec.{Rec}
 use Rattle.ec20.specs.declared.Verdict.{Verdict}
 use Rattle.ec20.specs.declared.Verdict.the-variants.{Accepted, Refused}
-use Rattle.ec20.specs.Devices.{Device, ec20, within}
-use Rattle.ec20.specs.Operands.{kindIs}
-use Rattle.ec20.specs.Table.{isWritten}
+use Rattle.ec20.specs.Devices.{Device, within}
+use Rattle.ec20.specs.Operands.{inD, startOf, extentOf}
+use Rattle.ec20.specs.Roles.{isWritten}
 use Rattle.ec20.specs.File.{recordsOf}
 use Rattle.ec20.specs.Code.{Program, programOf}
-use Rattle.ec20.specs.Check.{checkFor, checkOf}
+use Rattle.ec20.specs.Check.{checkFor}
 use Rattle.ec20.specs.Registers.{wordAt}
 use Rattle.ec20.specs.Memory.{Memory}
-use Rattle.ec20.specs.Scan.{Scan, runScan, fitting, scanIf, scanFor, scanOf}
+use Rattle.ec20.specs.Scan.{Scan, runScan, fitting, scanIf, scanFor}
 use Rattle.ec20.specs.UseMap.{holds, recordHas, someRecord, markedWritten}
 use Rattle.ec20.proofs.Ranges.{is-within}
 use Rattle.ec20.proofs.Some.{some-at}
@@ -40,9 +39,9 @@ module _ (v : Device) (i : ℕ) (work : Work v i) where
   unfolding holds
   marks-work {r} {p} {o} at e =
       let a = both (isWritten p) (holds i p o) e in
-      let b = both (kindIs 7 o) (within (o .value) (p .extent) i) (a .1) in
-      let c = is-within (o .value) (p .extent) i (b .1) in
-      meets i at (record { written = a .0; in-D = eqb-true _ _ (b .0); from = c .0; to = c .1 }) work
+      let b = both (inD o) (within (startOf o) (extentOf p o) i) (a .1) in
+      let c = is-within (startOf o) (extentOf p o) i (b .1) in
+      meets i at (record { written = a .0; in-D = b .0; from = c .0; to = c .1 }) work
 
   record-work : (r : Rec) → recordHas (Marks i) r ≡ true → Line4 v r
   record-work r e = let s = has-one (Marks i) r e in marks-work (s .2) (s .3)
@@ -65,21 +64,17 @@ past-if v (Accepted n s) p i h e budget c =
     picked (λ (s : Scan). wordAt (s .mem .d) i ≡ wordAt (c .d) i) (fitting v e c) _ _
     (λ q.
     let l : length (c .d) ≡ v .words = fitting-words v e c q in
-    let k : length (runScan p e budget c .mem .d) ≡ length (c .d) = length-scan p e budget c in
-    List·getD-eq-default (runScan p e budget c .mem .d) (pos 0) (omega arith) ∙ sym (List·getD-eq-default (c .d) (pos 0) (omega arith)))
+    let k : length (runScan v p e budget c .mem .d) ≡ length (c .d) = length-scan v p e budget c in
+    List·getD-eq-default (runScan v p e budget c .mem .d) (pos 0) (omega arith) ∙ sym (List·getD-eq-default (c .d) (pos 0) (omega arith)))
     (λ _. refl)
 past-if v (Refused n k) p i h e budget c = refl
 
-past-kept : (f : List ℕ) (i : ℕ) → 8000 ≤ i → (e budget : ℕ) (c : Memory) → wordAt (scanOf f e budget c .mem .d) i ≡ wordAt (c .d) i
-unfolding scanOf scanFor
-past-kept f i h e budget c = past-if ec20 (checkFor ec20 f) (programOf f) i h e budget c
-
--- WORK: in a scan of an accepted file no word from D7900 on changes, for every elapsed time, budget and memory
-pub work-kept : (f : List ℕ) (n w : ℕ) → checkOf f ≡ Accepted n w → (i : ℕ) → 7900 ≤ i → (e budget : ℕ) (c : Memory)
-    → wordAt (scanOf f e budget c .mem .d) i ≡ wordAt (c .d) i
-unfolding checkOf
-work-kept f n w ok i h e budget c =
-    elim (decLt i 8000) [
-      | yes l ↦ kept i f (work-unmarked ec20 i (record { from = h; to = l }) f n w ok) e budget c
-      | no l ↦ past-kept f i (omega arith) e budget c
+-- WORK: in a scan of an accepted file no word from the first of WORK on changes, for every device, elapsed time, budget and memory
+pub work-kept : (v : Device) (f : List ℕ) (n w : ℕ) → checkFor v f ≡ Accepted n w → (i : ℕ) → v .work ≤ i → (e budget : ℕ) (c : Memory)
+    → wordAt (scanFor v f e budget c .mem .d) i ≡ wordAt (c .d) i
+unfolding scanFor
+work-kept v f n w ok i h e budget c =
+    elim (decLt i (v .words)) [
+      | yes l ↦ kept v i f (work-unmarked v i (record { from = h; to = l }) f n w ok) e budget c
+      | no l ↦ past-if v (checkFor v f) (programOf f) i (omega arith) e budget c
     ]

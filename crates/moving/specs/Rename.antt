@@ -1,21 +1,21 @@
 -- D numbers renamed by σ: in an operand, a record, an instruction, a program; and the D table exchanged by it. Of the move σ is `swapped`.
 use Prim.Native.Nat.{ℕ, _+_, _*_, _/_, _<_}
+use mathlib.Core.Bool.{true}
 use mathlib.Core.Path.{_≡_}
 use mathlib.Core.List.{List}
 use lib.ListN.{length}
 use lib.IntN.{ℤ}
 use Rattle.ec20.specs.declared.Operand.{Operand}
-use Rattle.ec20.specs.declared.Place.{Place}
 use Rattle.ec20.specs.declared.Rec.{Rec}
 use Rattle.ec20.specs.declared.Instr.{Instr}
 use Rattle.ec20.specs.declared.Instr.the-variants.{Nop, Contact, Compare, Join, Branch, Coil, Timer, For, Next, Jump, Label, End, Word}
 use Rattle.ec20.specs.Basics.{pick, list}
-use Rattle.ec20.specs.Devices.{kindD}
 use Rattle.ec20.specs.Numbers.{bitsIn}
 use Rattle.ec20.specs.Registers.{wordAt}
-use Rattle.ec20.specs.Operands.{kindIs}
+use Rattle.ec20.specs.Operands.{inD, startOf}
 use Rattle.ec20.specs.Code.{Program}
 use Rattle.ec20.specs.Memory.{Memory, withD}
+use Rattle.ec20.specs.Mnemonics.{DIV, DDIV}
 use Rattle.ec20.specs.Words.{is}
 use Rattle.ec20.specs.Step.{World, world, widthOf}
 use Rattle.ec20.specs.Scan.{Scan, scan}
@@ -25,9 +25,9 @@ pub record Swap (σ : ℕ → ℕ) (n : ℕ) : Type 0 where
   pub twice : (i : ℕ) → σ (σ i) ≡ i
   pub stays : (i : ℕ) → i < n → σ i < n
 
--- an operand with its number renamed, if it is D
+-- an operand with its number renamed, if it is in D
 unfoldable pub renameOperand : (ℕ → ℕ) → Operand → Operand
-renameOperand σ o = pick (kindIs kindD o) (record { kind = o .kind; group = o .group; value = σ (o .value) }) o
+renameOperand σ o = pick (inD o) (record { kind = o .kind; group = o .group; value = σ (startOf o) }) o
 
 unfoldable pub renameRec : (ℕ → ℕ) → Rec → Rec
 renameRec σ r =
@@ -50,7 +50,7 @@ renameInstr σ End = End
 renameInstr σ (Word n a b t) = Word n (renameOperand σ a) (renameOperand σ b) (renameOperand σ t)
 
 abbrev pub renameProgram : (ℕ → ℕ) → Program → Program
-renameProgram σ p = record { count = p .count; code = λ k. renameInstr σ (p .code k) }
+renameProgram σ p = record { edition = p .edition; count = p .count; code = λ k. renameInstr σ (p .code k) }
 
 -- the table whose word i is word σ i of d
 unfoldable pub exchangeBy : (ℕ → ℕ) → List ℤ → List ℤ
@@ -61,14 +61,14 @@ abbrev pub exMemory : (ℕ → ℕ) → Memory → Memory
 exMemory σ c = withD c (exchangeBy σ (c .d))
 
 abbrev pub exWorld : (ℕ → ℕ) → World → World
-exWorld σ w = world (exMemory σ (w .mem)) (w .left) (w .back) (w .st)
+exWorld σ w = world (exMemory σ (w .mem)) (w .loops) (w .st)
 
 abbrev pub exScan : (ℕ → ℕ) → Scan → Scan
 exScan σ s = scan (s .answer) (exMemory σ (s .mem))
 
--- if the operand is D, the e words from its number on go along: each is renamed to as many on from the renamed number
+-- if the operand is in D, the e words from its first on go along: each is renamed to as many on from the renamed first
 unfoldable pub Along : (ℕ → ℕ) → ℕ → Operand → Type 0
-Along σ e o = o .kind ≡ kindD → (j : ℕ) → j < e → σ (o .value + j) ≡ σ (o .value) + j
+Along σ e o = inD o ≡ true → (j : ℕ) → j < e → σ (startOf o + j) ≡ σ (startOf o) + j
 
 -- the D words of one number of w bits
 abbrev pub wordsOf : ℕ → ℕ
@@ -76,7 +76,7 @@ wordsOf w = bitsIn w / 16
 
 -- the D words that word instruction n writes: DIV and DDIV two numbers, the others one
 abbrev pub writtenBy : ℕ → ℕ
-writtenBy n = pick (is n 35 52) (2 * wordsOf (widthOf n)) (wordsOf (widthOf n))
+writtenBy n = pick (is n DIV DDIV) (2 * wordsOf (widthOf n)) (wordsOf (widthOf n))
 
 -- each extent of the instruction goes along whole
 unfoldable pub Whole : (ℕ → ℕ) → Instr → Type 0

@@ -1,8 +1,9 @@
 -- A series of scans: between two scans only X changes.
 use Prim.Native.Nat.{ℕ}
 use mathlib.Core.List.{List, [], _∷_}
+use Rattle.ec20.specs.Devices.{Device}
 use Rattle.ec20.specs.Memory.{Memory, memory}
-use Rattle.ec20.specs.Scan.{Scan, scanOf}
+use Rattle.ec20.specs.Scan.{Scan, scanFor}
 
 -- what a scan of the series is given from outside: X, elapsed units, budget
 pub record Input : Type 0 where
@@ -14,13 +15,13 @@ pub record Input : Type 0 where
 abbrev pub withX : Memory → List ℕ → Memory
 withX c l = memory l (c .y) (c .m) (c .sm) (c .t) (c .d) (c .tv)
 
--- one scan of the file: on the memory with the input's X
-abbrev pub scanWith : List ℕ → Memory → Input → Scan
-scanWith f c i = scanOf f (i .elapsed) (i .budget) (withX c (i .x))
+-- one scan of the file on a device: on the memory with the input's X
+abbrev pub scanWith : Device → List ℕ → Memory → Input → Scan
+scanWith v f c i = scanFor v f (i .elapsed) (i .budget) (withX c (i .x))
 
 -- The scans of the file, in order, from the memory c on: each on the memory that the one before it left. A refused scan leaves it as it was.
-unfoldable pub series : List ℕ → Memory → List Input → List Scan
-series f c [] = []
-series f c (i ∷ rest) =
-    let s = scanWith f c i in
-    s ∷ series f (s .mem) rest
+unfoldable pub series : Device → List ℕ → Memory → List Input → List Scan
+series v f c [] = []
+series v f c (i ∷ rest) =
+    let s = scanWith v f c i in
+    s ∷ series v f (s .mem) rest

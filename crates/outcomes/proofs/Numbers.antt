@@ -7,7 +7,8 @@ use borrow.Author.Tests.{leb-true, le-leb, eq-eqb, ne-eqb, eqb-true}
 use lib.Dec.{eqb, leb}
 use Rattle.ec20.proofs.Tests.{both, differ}
 use Rattle.ec20.specs.Step.{widthOf}
-use Rattle.ec20.specs.Table.{table, rowOf, formThree}
+use Rattle.ec20.specs.Table.{table, rowOf}
+use Rattle.ec20.specs.Forms.{formThree}
 use Rattle.instructions.proofs.Rows.{everyBelow, at-every}
 use Rattle.outcomes.specs.Done.{WordAt}
 

@@ -11,7 +11,8 @@ use Rattle.ec20.specs.File.{operandAt}
 use Rattle.ec20.specs.Memory.{Memory}
 use Rattle.ec20.specs.Numbers.{half}
 use Rattle.ec20.specs.Step.{widthOf, outcomeOf}
-use Rattle.ec20.specs.Table.{rowOf, formThree, formTwo}
+use Rattle.ec20.specs.Table.{rowOf}
+use Rattle.ec20.specs.Forms.{formThree, formTwo}
 use Rattle.ec20.specs.Words.{storeAll}
 use Rattle.ec20.specs.declared.Operand.{Operand}
 

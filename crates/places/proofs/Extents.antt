@@ -1,26 +1,25 @@
--- An operand that is D, at a place that allows it, has at least one word there: by the table. Assumes nothing.
-use Prim.Native.Nat.{ℕ, _+_, _≤_, _<_}
+-- An operand with words in D, at a place that allows it, has at least one there: by the table. Assumes nothing.
+use Prim.Native.Nat.{ℕ, _≤_, _<_}
 use mathlib.Core.Bool.{true}
 use mathlib.Core.Path.{_≡_}
 use native.Mathlib.Omega.{arith}
-use borrow.Author.Tests.{eqb-true}
-use Rattle.ec20.proofs.InD.{at-word, first-word, second-word, third-word}
+use Rattle.ec20.proofs.InD.{first-word, second-word, third-word}
 use Rattle.ec20.proofs.Laws.{no-fault}
 use Rattle.ec20.proofs.NoFault.{record-fine}
 use Rattle.ec20.proofs.Tests.{each}
-use Rattle.ec20.specs.Devices.{Device, kindD}
+use Rattle.ec20.specs.Devices.{Device}
 use Rattle.ec20.specs.File.{Records}
-use Rattle.ec20.specs.Operands.{kindIs, allowed, operandsOk, faultIn, firstBad}
+use Rattle.ec20.specs.Operands.{inD, extentOf, allowed, operandsOk, faultIn, firstBad}
 use Rattle.ec20.specs.Table.{rowOf}
 use Rattle.ec20.specs.declared.Judged.the-variants.{Fine}
 use Rattle.ec20.specs.declared.Rec.{Rec}
 use Rattle.ec20.specs.declared.Row.{Row}
 
--- each D operand of a record has at least one word
+-- each operand of a record that has words in D has at least one
 pub record Real (w : Row) (r : Rec) : Type 0 where
-  pub first : kindIs kindD (r .first) ≡ true → 0 < w .first .extent
-  pub second : kindIs kindD (r .second) ≡ true → 0 < w .second .extent
-  pub third : kindIs kindD (r .third) ≡ true → 0 < w .third .extent
+  pub first : inD (r .first) ≡ true → 1 ≤ extentOf (w .first) (r .first)
+  pub second : inD (r .second) ≡ true → 1 ≤ extentOf (w .second) (r .second)
+  pub third : inD (r .third) ≡ true → 1 ≤ extentOf (w .third) (r .third)
 
 module _ (v : Device) (r : Rec) (ok : operandsOk v (rowOf (r .number)) r ≡ true) where
   abbrev w : Row
@@ -32,9 +31,9 @@ module _ (v : Device) (r : Rec) (ok : operandsOk v (rowOf (r .number)) r ≡ tru
 
   row-real : Real (rowOf (r .number)) r
   row-real = record {
-    first = λ k. first-word (r .number) (at-word v (w .first) (r .first) (eqb-true _ _ k) (allows .0));
-    second = λ k. second-word (r .number) (at-word v (w .second) (r .second) (eqb-true _ _ k) (allows .1));
-    third = λ k. third-word (r .number) (at-word v (w .third) (r .third) (eqb-true _ _ k) (allows .2));
+    first = λ k. first-word v (r .number) (r .first) k (allows .0);
+    second = λ k. second-word v (r .number) (r .second) k (allows .1);
+    third = λ k. third-word v (r .number) (r .third) k (allows .2);
   }
 
 -- so it is of each record that 2, 3 and 4 do not refuse

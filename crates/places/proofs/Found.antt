@@ -24,7 +24,7 @@ use Rattle.places.proofs.Clear.{right-clear, clear-right}
 -- ---- the first number that passes
 
 module _ (test : ℕ → Bool) where
-  first-is : (n k q : ℕ) → k ≤ q → q < k + n → test q ≡ true → ((p : ℕ) → k ≤ p → p < q → test p ≡ true → ⊥) → At q ≡ firstAt test n k
+  first-is : (n k q : ℕ) → k ≤ q → q < k + n → test q ≡ true → ((p : ℕ) → k ≤ p → p < q → test p ≡ true → ⊥) → At q ≡ firstAt test k n
   unfolding firstAt
   first-is zero k q l u e f = absurd (omega arith)
   first-is (suc n) k q l u e f =
@@ -35,7 +35,7 @@ module _ (test : ℕ → Bool) where
             first-is n (k + 1) q (omega arith) (omega arith) e (λ p a. f p (omega arith)) ∙ rw t refl
       ]
 
-  first-none : (n k : ℕ) → ((p : ℕ) → k ≤ p → p < k + n → test p ≡ true → ⊥) → Nowhere ≡ firstAt test n k
+  first-none : (n k : ℕ) → ((p : ℕ) → k ≤ p → p < k + n → test p ≡ true → ⊥) → Nowhere ≡ firstAt test k n
   unfolding firstAt
   first-none zero k f = refl
   first-none (suc n) k f =

@@ -6,10 +6,10 @@ use native.Mathlib.Omega.{arith}
 use Rattle.ec20.proofs.Ranges.{within-yes, is-within, meets-yes, common}
 use Rattle.ec20.proofs.Some.{some-at, at-some}
 use Rattle.ec20.proofs.Tests.{both, or-right, three, one-first, one-second}
-use Rattle.ec20.specs.Devices.{kindD, within, meets}
+use Rattle.ec20.specs.Devices.{within, meets}
 use Rattle.ec20.specs.File.{Records}
 use Rattle.ec20.specs.Move.{block, touches}
-use Rattle.ec20.specs.Operands.{kindIs}
+use Rattle.ec20.specs.Operands.{inD, startOf, extentOf}
 use Rattle.ec20.specs.Table.{rowOf}
 use Rattle.ec20.specs.UseMap.{holds, someOperand, recordHas, someRecord}
 use Rattle.ec20.specs.declared.Operand.{Operand}
@@ -24,11 +24,11 @@ module _ (q n : ℕ) where
   hold-touch : (i : ℕ) → q ≤ i → i < q + n → (p : Place) (o : Operand) → holds i p o ≡ true → touches (block q n) p o ≡ true
   unfolding holds touches
   hold-touch i l u p o e =
-      let h = both (kindIs kindD o) (within (o .value) (p .extent) i) e in
-      let w = is-within (o .value) (p .extent) i (h .1) in
-      let x : o .value ≤ i = w .0 in
-      let y : i < o .value + p .extent = w .1 in
-      ap₂ _&&_ (h .0) (meets-yes (o .value) (p .extent) q n (omega arith) (omega arith))
+      let h = both (inD o) (within (startOf o) (extentOf p o) i) e in
+      let w = is-within (startOf o) (extentOf p o) i (h .1) in
+      let x : startOf o ≤ i = w .0 in
+      let y : i < startOf o + extentOf p o = w .1 in
+      ap₂ _&&_ (h .0) (meets-yes (startOf o) (extentOf p o) q n (omega arith) (omega arith))
 
   held : (i : ℕ) → q ≤ i → i < q + n → (w : Row) (r : Rec) → someOperand (holds i) w r ≡ true → someOperand (touches (block q n)) w r ≡ true
   unfolding someOperand
@@ -52,12 +52,12 @@ module _ (q n : ℕ) where
     abbrev Held : (ℕ → Bool) → Type 0
     Held test = (i : ℕ) × (q ≤ i) × (i < q + n) × (test i ≡ true)
 
-    touch-hold : (p : Place) (o : Operand) → (kindIs kindD o ≡ true → 0 < p .extent) → touches (block q n) p o ≡ true → Held (λ i. holds i p o)
+    touch-hold : (p : Place) (o : Operand) → (inD o ≡ true → 1 ≤ extentOf p o) → touches (block q n) p o ≡ true → Held (λ i. holds i p o)
     unfolding holds touches
     touch-hold p o r e =
-        let h = both (kindIs kindD o) (meets (o .value) (p .extent) q n) e in
-        let c = common (o .value) (p .extent) q n (r (h .0)) some (h .1) in
-        (c .0, c .3, c .4, ap₂ _&&_ (h .0) (within-yes (o .value) (p .extent) (c .0) (c .1) (c .2)))
+        let h = both (inD o) (meets (startOf o) (extentOf p o) q n) e in
+        let c = common (startOf o) (extentOf p o) q n (r (h .0)) some (h .1) in
+        (c .0, c .3, c .4, ap₂ _&&_ (h .0) (within-yes (startOf o) (extentOf p o) (c .0) (c .1) (c .2)))
 
     touched : (w : Row) (r : Rec) → Real w r → someOperand (touches (block q n)) w r ≡ true → Held (λ i. someOperand (holds i) w r)
     unfolding someOperand
@@ -69,7 +69,7 @@ module _ (q n : ℕ) where
         (λ g. let c = touch-hold (w .second) (r .second) (s .second) g in (c .0, c .1, c .2, one-second (h (c .0) (w .first) (r .first)) (h (c .0) (w .second) (r .second)) (h (c .0) (w .third) (r .third)) (c .3)))
         (λ g. let c = touch-hold (w .third) (r .third) (s .third) g in (c .0, c .1, c .2, or-right (h (c .0) (w .first) (r .first) || h (c .0) (w .second) (r .second)) (h (c .0) (w .third) (r .third)) (c .3)))
 
-    -- where each D operand has a word: if an operand's extent meets the words, one of them is in use
+    -- where each operand with words in D has one at its place: if an operand's extent meets the words, one of them is in use
     pub meets-used : (rs : Records) → ((k : ℕ) → k < rs .count → Real (rowOf (rs .at k .number)) (rs .at k)) → someRecord (touches (block q n)) rs ≡ true
         → Held (λ i. someRecord (holds i) rs)
     unfolding someRecord

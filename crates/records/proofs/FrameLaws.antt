@@ -29,7 +29,7 @@ held n edition count distance t f =
     let e = both (eqb edition 1) _ (d .0) in
     let is : distance ≡ 20 * count + 8 = eqb-true _ _ (b .1) in
     let in-file : distance ≤ n = leb-true _ _ (a .1) in
-    record { whole = omega arith; some = leb-true _ _ (e .1); most = leb-true _ _ (d .1); comment = let z : n - distance ≤ 4096 = leb-true _ _ (all .1) in omega arith }
+    record { whole = omega arith; some = leb-true _ _ (e .1); most = leb-true _ _ (d .1); near = let z : n - distance ≤ 4096 = leb-true _ _ (all .1) in let y : count ≤ 2000 = leb-true _ _ (d .1) in omega arith }
 
 module _ (f : List ℕ) where
   pub short : length f < 8 → Broken ≡ frameOf f

@@ -1,2 +1,3 @@
--- The frame's laws.
+-- The frame's laws, and some of the records by themselves.
 pub mod FrameLaws
+pub mod Parts

@@ -18,12 +18,13 @@ pub record SmallRec (r : Rec) : Type 0 where
   pub second : Small (r .second)
   pub third : Small (r .third)
 
--- `count` records from the byte `first` on, and the trailer, are the rest of a file of n bytes
+-- `count` records from the byte `first` on lie in a file of n bytes, ahead of a trailer: all of its records, or some that follow each other.
+-- They end where at most 4,096 bytes of comment and 2,000 records do.
 pub record Held (n first count : ℕ) : Type 0 where
-  pub whole : first + 20 * count + 8 ≡ n
+  pub whole : first + 20 * count + 8 ≤ n
   pub some : 0 < count
   pub most : count ≤ 2000
-  pub comment : first ≤ 4096
+  pub near : first + 20 * count ≤ 44096
 
 abbrev pub Fits : ℕ → Frame → Type 0
 Fits n (Whole first count) = Held n first count

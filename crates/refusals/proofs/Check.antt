@@ -1,5 +1,5 @@
 -- THE TABLE OF REFUSALS: the check answers as the table says (told), and the table says one answer (only).
-use Prim.Native.Nat.{ℕ}
+use Prim.Native.Nat.{ℕ, _<_}
 use mathlib.Core.Bool.{Bool}
 use mathlib.Core.List.{List}
 use mathlib.Core.Path.{_≡_, refl, sym, ap, _∙_}
@@ -16,16 +16,17 @@ use Rattle.ec20.specs.Operands.{firstBad}
 use Rattle.ec20.specs.Code.{Program, programOf}
 use Rattle.ec20.specs.Control.{controlsOf}
 use Rattle.ec20.specs.Rung.{firstBroken}
-use Rattle.ec20.specs.Loops.{unsound, stepsOf, tooLong}
+use Rattle.ec20.specs.Loops.{firstUnsound, tooLong}
+use Rattle.ec20.specs.Walkers.{stepsWalked, walked}
 use Rattle.ec20.specs.Labels.{firstUnlabelled}
-use Rattle.ec20.specs.Check.{walked, judgeProgram, judgeFile, verdictOf, checkFor, checkOf}
+use Rattle.ec20.specs.Check.{wOf, judgeProgram, judgeFile, verdictOf, checkFor, checkOf}
 use Rattle.ec20.proofs.Tests.{picked}
+use Rattle.ec20.proofs.Walkers.{walked-unsound}
 use Rattle.bound.proofs.Accepted.{sound-walk}
 use Rattle.refusals.specs.Frame.{no-records}
 use Rattle.refusals.specs.Rung.{Line5}
 use Rattle.refusals.specs.Structure.{Line6}
 use Rattle.refusals.specs.Labels.{Line7}
-use Rattle.refusals.specs.Steps.{wOf}
 use Rattle.refusals.specs.Table.{Told, told-1, told-2, told-3, told-4, told-5, told-6, told-7, told-8, accepted}
 use Rattle.refusals.specs.Table.{recordAt, Not1, Not2-4, Not5, Not6, Not7, First2-4}
 use Rattle.refusals.proofs.Search.{Judges, judged-fine, judged-fault}
@@ -48,7 +49,7 @@ module _ (v : Device) (f : List ℕ) where
   J5 = firstBroken p
 
   abbrev J6 : Judged
-  J6 = unsound (walked p)
+  J6 = firstUnsound (controlsOf p) (p .count)
 
   abbrev J7 : Judged
   J7 = firstUnlabelled (controlsOf p) (p .count)
@@ -60,13 +61,16 @@ module _ (v : Device) (f : List ℕ) where
   unfolding programOf
   judged-rung = judged-5 p
 
-  judged-structure : Not1 f → Judges 6 (countOf f) (Line6 p) J6
+  judged-structure : Judges 6 (countOf f) (Line6 p) J6
   unfolding programOf
-  judged-structure n = judged-6 p (elim (decLt 0 (countOf f)) [ yes h ↦ h | no h ↦ absurd (n (no-records (omega arith))) ])
+  judged-structure = judged-6 p
 
-  judged-labels : J6 ≡ Fine → Judges 7 (countOf f) (Line7 p) J7
+  judged-labels : Not1 f → J6 ≡ Fine → Judges 7 (countOf f) (Line7 p) J7
   unfolding programOf
-  judged-labels e = let d = sound-walk (walked p) e in judged-7 p (d .0) (stepsOf (walked p)) (d .1)
+  judged-labels n e =
+      let some : 0 < countOf f = elim (decLt 0 (countOf f)) [ yes h ↦ h | no h ↦ absurd (n (no-records (omega arith))) ] in
+      let d = sound-walk (walked p) (walked-unsound (controlsOf p) (p .count) some ∙ e) in
+      judged-7 p (d .0) (stepsWalked (walked p)) (d .1)
 
   -- ---- the check answers as the table says
 
@@ -100,7 +104,7 @@ module _ (v : Device) (f : List ℕ) where
   unfolding checkFor judgeFile judgeProgram
   told =
       picked (Told v f) (framed f) _ _ (λ e.
-      let n = frame-right f e in by-order n J2-4 J5 J6 J7 judged-records judged-rung (judged-structure n) judged-labels)
+      let n = frame-right f e in by-order n J2-4 J5 J6 J7 judged-records judged-rung judged-structure (judged-labels n))
       (λ e. told-1 (unframed f e))
 
   -- ---- and no other answer is told
@@ -120,11 +124,11 @@ module _ (v : Device) (f : List ℕ) where
   none-5 : Not5 f → J5 ≡ Fine
   none-5 h = judged-fine 5 (countOf f) (Line5 p) J5 judged-rung h
 
-  none-6 : Not1 f → Not6 f → J6 ≡ Fine
-  none-6 n h = judged-fine 6 (countOf f) (Line6 p) J6 (judged-structure n) h
+  none-6 : Not6 f → J6 ≡ Fine
+  none-6 h = judged-fine 6 (countOf f) (Line6 p) J6 judged-structure h
 
-  none-7 : J6 ≡ Fine → Not7 f → J7 ≡ Fine
-  none-7 e h = judged-fine 7 (countOf f) (Line7 p) J7 (judged-labels e) h
+  none-7 : Not1 f → J6 ≡ Fine → Not7 f → J7 ≡ Fine
+  none-7 n e h = judged-fine 7 (countOf f) (Line7 p) J7 (judged-labels n e) h
 
   -- what the table says is the check's answer
   pub answer : {r : Verdict} → Told v f r → checkFor v f ≡ r
@@ -135,11 +139,11 @@ module _ (v : Device) (f : List ℕ) where
   answer (told-4 {k = k} n h x y z) = answered n (found-2-4 4 k (λ m q. only-4 v (recordAt f k) q x y z) h) refl refl refl refl
   answer (told-5 {k = k} n a h) = answered n (none-2-4 a) (judged-fault 5 (countOf f) (Line5 p) k J5 judged-rung h) refl refl refl
   answer (told-6 {k = k} n a b h) =
-      answered n (none-2-4 a) (none-5 b) (judged-fault 6 (countOf f) (Line6 p) k J6 (judged-structure n) h) refl refl
+      answered n (none-2-4 a) (none-5 b) (judged-fault 6 (countOf f) (Line6 p) k J6 judged-structure h) refl refl
   answer (told-7 {k = k} n a b c h) =
-      answered n (none-2-4 a) (none-5 b) (none-6 n c) (judged-fault 7 (countOf f) (Line7 p) k J7 (judged-labels (none-6 n c)) h) refl
-  answer (told-8 n a b c d h) = answered n (none-2-4 a) (none-5 b) (none-6 n c) (none-7 (none-6 n c) d) (long p h)
-  answer (accepted n a b c d h) = answered n (none-2-4 a) (none-5 b) (none-6 n c) (none-7 (none-6 n c) d) (not-long p h)
+      answered n (none-2-4 a) (none-5 b) (none-6 c) (judged-fault 7 (countOf f) (Line7 p) k J7 (judged-labels n (none-6 c)) h) refl
+  answer (told-8 n a b c d h) = answered n (none-2-4 a) (none-5 b) (none-6 c) (none-7 n (none-6 c) d) (long p h)
+  answer (accepted n a b c d h) = answered n (none-2-4 a) (none-5 b) (none-6 c) (none-7 n (none-6 c) d) (not-long p h)
 
 -- the table determines the answer
 pub only : {v : Device} {f : List ℕ} {r s : Verdict} → Told v f r → Told v f s → r ≡ s

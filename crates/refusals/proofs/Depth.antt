@@ -6,9 +6,9 @@ use native.Mathlib.Omega.{arith}
 use lib.ListN.{length}
 use Rattle.ec20.specs.declared.Control.{Control}
 use Rattle.ec20.specs.declared.Control.the-variants.{Plain, Opens, Closes, Jumps, Marks, Ends}
-use Rattle.ec20.specs.Control.{Controls}
+use Rattle.ec20.specs.Control.{Controls, openAfter}
 use Rattle.ec20.specs.Labels.{rest, opensAfter, opensOf}
-use Rattle.refusals.specs.Structure.{openAfter, openAt}
+use Rattle.refusals.specs.Structure.{openAt}
 
 one-less : (o : List ℕ) → length (rest o) ≡ length o - 1
 unfolding rest

@@ -19,7 +19,7 @@ use Rattle.refusals.specs.Frame.{Line1, under-8, edition, no-records, ma
 use Rattle.refusals.specs.Records.{Line2, unknown, first, second, third, not-allowed, not-zero, Line3, wrong, Line4, meets}
 use Rattle.refusals.specs.Records.{Line2-4, by-2, by-3, by-4, spare}
 use Rattle.refusals.specs.Rung.{rungAt, Line5}
-use Rattle.refusals.specs.Structure.{openAfter, openAt, Line6, stray-next, ninth-for, early-end, last-not-end, for-open-there}
+use Rattle.refusals.specs.Structure.{openAt, Line6, stray-next, ninth-for, early-end, last-not-end, for-open-there}
 use Rattle.refusals.specs.Labels.{Line7, set-twice, astray}
 use Rattle.refusals.specs.Steps.{Line8}
 use Rattle.refusals.specs.Table.{Told, accepted, recordAt, Not1, Not2-4, Not5, Not6, Not7, First2-4, First5, First6, First7}
@@ -118,7 +118,7 @@ abbrev file-6 : List ℕ
 file-6 = file (FOR 2 ∷ FOR 2 ∷ FOR 2 ∷ FOR 2 ∷ FOR 2 ∷ FOR 2 ∷ FOR 2 ∷ FOR 2 ∷ FOR 2 ∷ END ∷ [])
 
 line-6 : Line6 (programOf file-6) 8
-unfolding computing openAfter openAt
+unfolding computing openAt
 line-6 = ninth-for refl (omega arith)
 
 check-6 : checkFor ec20 file-6 ≡ Refused 6 8

@@ -1,8 +1,10 @@
 -- One of a record's operands, at its place in the row, passes a test: from the test to the operand, and back. Assumes nothing.
 use mathlib.Core.Bool.{Bool, true, false, _||_}
 use mathlib.Core.Path.{_≡_}
-use Rattle.ec20.proofs.InD.{isWord, first-word, second-word, third-word}
+use Rattle.ec20.proofs.InD.{first-word, second-word, third-word}
 use Rattle.ec20.proofs.Tests.{neither, three, or-right, one-first, one-second}
+use Rattle.ec20.specs.Devices.{Device}
+use Rattle.ec20.specs.Operands.{inD, extentOf, allowed}
 use Rattle.ec20.specs.Table.{rowOf}
 use Rattle.ec20.specs.UseMap.{someOperand, recordHas}
 use Rattle.ec20.specs.declared.Operand.{Operand}
@@ -40,8 +42,8 @@ module _ (test : Place → Operand → Bool) (r : Rec) where
   has-none e second = neither One Two (neither (One || Two) Three e .0) .1
   has-none e third = neither (One || Two) Three e .1
 
--- a place for words takes a word at least
-pub some-word : (r : Rec) {p : Place} {o : Operand} → Operand-at r p o → isWord p ≡ true → 1 ≤ p .extent
-some-word r first h = first-word (r .number) h
-some-word r second h = second-word (r .number) h
-some-word r third h = third-word (r .number) h
+-- an operand in D that is allowed has a word at least
+pub some-word : (v : Device) (r : Rec) {p : Place} {o : Operand} → Operand-at r p o → inD o ≡ true → allowed v p o ≡ true → 1 ≤ extentOf p o
+some-word v r first k h = first-word v (r .number) (r .first) k h
+some-word v r second k h = second-word v (r .number) (r .second) k h
+some-word v r third k h = third-word v (r .number) (r .third) k h

@@ -12,9 +12,9 @@ use Rattle.ec20.specs.declared.Found.the-variants.{At, Nowhere}
 use Rattle.ec20.specs.declared.Walked.the-variants.{Done}
 use Rattle.ec20.specs.Basics.{firstAt, refusedAt}
 use Rattle.ec20.specs.Code.{Program}
-use Rattle.ec20.specs.Control.{Controls, controlOf, controlsOf, marks, labelOf}
+use Rattle.ec20.specs.Control.{Controls, controlOf, controlsOf, marks, firstLabel}
 use Rattle.ec20.specs.Labels.{same, labelFault, firstUnlabelled}
-use Rattle.ec20.specs.Check.{walked}
+use Rattle.ec20.specs.Walkers.{walked}
 use Rattle.ec20.proofs.Tests.{differ}
 use Rattle.bound.proofs.First.{no-first, first-at}
 use Rattle.bound.proofs.LabelRule.{label-rule}
@@ -38,7 +38,7 @@ marked l i e = rw e (eq-eqb l l refl)
 
 module _ (code : Controls) (count : ℕ) where
   -- an LBL at fault is not the first of its label, and the other way round
-  earlier : (k l : ℕ) → k < count → code k ≡ Marks l → (x : Found) → labelOf code count l ≡ x → not (same x (At k)) ≡ true
+  earlier : (k l : ℕ) → k < count → code k ≡ Marks l → (x : Found) → firstLabel code count l ≡ x → not (same x (At k)) ≡ true
       → (j : ℕ) × (j < k) × (code j ≡ Marks l)
   unfolding same
   earlier k l h e (At t) q f =
@@ -51,7 +51,7 @@ module _ (code : Controls) (count : ℕ) where
   earlier k l h e Nowhere q f =
       differ (sym (marked l (code k) e) ∙ no-first (λ j. marks l (code j)) count 0 q k (omega arith) (omega arith))
 
-  later : (k j l : ℕ) → j < k → code j ≡ Marks l → (x : Found) → labelOf code count l ≡ x → not (same x (At k)) ≡ true
+  later : (k j l : ℕ) → j < k → code j ≡ Marks l → (x : Found) → firstLabel code count l ≡ x → not (same x (At k)) ≡ true
   unfolding same
   later k j l h e (At t) q =
       let r = first-at (λ j. marks l (code j)) count 0 t q in
@@ -74,7 +74,7 @@ module _ (p : Program) (m w : ℕ) (walks : walked p ≡ Done m w) where
   to-line k h (Jumps l) e f =
       astray (is-jump e) (λ t s. differ (sym f ∙ label-rule (controlsOf p) (p .count) m w walks k l h e .1 t s))
   to-line k h (Marks l) e f =
-      let r = earlier (controlsOf p) (p .count) k l h e (labelOf (controlsOf p) (p .count) l) refl f in
+      let r = earlier (controlsOf p) (p .count) k l h e (firstLabel (controlsOf p) (p .count) l) refl f in
       set-twice (is-label e) (r .1) (is-label (r .2))
   to-line k h Ends e f = differ (sym f)
 
@@ -82,14 +82,14 @@ module _ (p : Program) (m w : ℕ) (walks : walked p ≡ Done m w) where
   from-line : (k : ℕ) → k < p .count → Line7 p k → Faulty k ≡ true
   unfolding labelFault controlOf
   from-line k h (set-twice {l = l} {j = j} e a b) =
-      rw e (later (controlsOf p) (p .count) k j l a (ap controlOf b) (labelOf (controlsOf p) (p .count) l) refl)
+      rw e (later (controlsOf p) (p .count) k j l a (ap controlOf b) (firstLabel (controlsOf p) (p .count) l) refl)
   from-line k h (astray {l = l} e f) = rw e (go (labelFault (controlsOf p) (p .count) k (Jumps l)) refl)
     where
       go : (t : Bool) → labelFault (controlsOf p) (p .count) k (Jumps l) ≡ t → t ≡ true
       go true q = refl
       go false q = let s = label-rule (controlsOf p) (p .count) m w walks k l h (ap controlOf e) .0 q in absurd (f (s .0) (s .1))
 
-  told : (x : Found) → firstAt Faulty (p .count) 0 ≡ x → Judges 7 (p .count) (Line7 p) (refusedAt 7 x)
+  told : (x : Found) → firstAt Faulty 0 (p .count) ≡ x → Judges 7 (p .count) (Line7 p) (refusedAt 7 x)
   told (At t) q =
       let r = first-at Faulty (p .count) 0 t q in
       let h : t < p .count = omega (arith, r .high) in (
@@ -103,4 +103,4 @@ module _ (p : Program) (m w : ℕ) (walks : walked p ≡ Done m w) where
   told Nowhere q = λ j h l. differ (sym (from-line j h l) ∙ no-first Faulty (p .count) 0 q j (omega arith) (omega arith))
 
   pub judged-7 : Judges 7 (p .count) (Line7 p) (firstUnlabelled (controlsOf p) (p .count))
-  judged-7 = told (firstAt Faulty (p .count) 0) refl
+  judged-7 = told (firstAt Faulty 0 (p .count)) refl

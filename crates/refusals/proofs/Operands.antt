@@ -9,18 +9,19 @@ use Rattle.ec20.specs.declared.Operand.{Operand}
 use Rattle.ec20.specs.declared.Place.{Place}
 use Rattle.ec20.specs.declared.Rec.{Rec}
 use Rattle.ec20.specs.Devices.{Device}
-use Rattle.ec20.specs.Operands.{isUnused, allowedBit, allowedWord, allowedOther, allowed, operandsOk}
-use Rattle.ec20.specs.Table.{rowOf, roleUnused}
+use Rattle.ec20.specs.Operands.{isUnused, allowed, operandsOk}
+use Rattle.ec20.specs.Table.{rowOf}
+use Rattle.ec20.specs.Roles.{roleUnused}
 use Rattle.ec20.proofs.Tests.{both, each, differ}
 use Rattle.refusals.specs.Records.{Six-zeros, Operand-at, first, second, third, Wrong, not-allowed, not-zero, Line3, wrong}
 
-alone : (b : Bool) → (b || false || false || false || false) ≡ b
+alone : (b : Bool) → (b || false || false || false || false || false || false || false || false || false || false) ≡ b
 alone true = refl
 alone false = refl
 
 -- an unused place allows six zeros and nothing else
 unused-place : (v : Device) (p : Place) (o : Operand) → p .role ≡ roleUnused → allowed v p o ≡ isUnused o
-unfolding allowed allowedBit allowedWord allowedOther
+unfolding allowed
 unused-place v p o e =
     subst (λ (r : ℕ). allowed v (record { role = r; width = p .width; extent = p .extent }) o ≡ isUnused o) (sym e) (alone (isUnused o))
 

@@ -1,6 +1,6 @@
 -- 2, 3 and 4, as the check computes them and as the table says them.
 use Prim.Native.Nat.{ℕ, zero, suc, _+_, _<_}
-use mathlib.Core.Bool.{Bool, true, false, _&&_}
+use mathlib.Core.Bool.{Bool, true, false, not, _&&_}
 use mathlib.Core.Path.{_≡_, refl, sym, ap₂, subst, _∙_}
 use native.Mathlib.Omega.{arith}
 use lib.Dec.{eqb}
@@ -8,13 +8,13 @@ use borrow.Author.Tests.{eqb-true, eqb-false}
 use Rattle.ec20.specs.declared.Judged.{Judged}
 use Rattle.ec20.specs.declared.Judged.the-variants.{Fine, Fault}
 use Rattle.ec20.specs.declared.Rec.{Rec}
-use Rattle.ec20.specs.Basics.{judged, firstFault}
+use Rattle.ec20.specs.Basics.{pick, judged, firstFault}
 use Rattle.ec20.specs.Devices.{Device}
 use Rattle.ec20.specs.File.{Records}
 use Rattle.ec20.specs.Operands.{isKnown, operandsOk, targetInWork, faultOf, faultIn, firstBad}
 use Rattle.ec20.specs.Table.{rowOf}
 use Rattle.ec20.proofs.Laws.{no-fault, the-first}
-use Rattle.ec20.proofs.Tests.{both, differ, picked}
+use Rattle.ec20.proofs.Tests.{both, differ}
 use Rattle.refusals.specs.First.{First, Never}
 use Rattle.refusals.specs.Records.{Line2, unknown, spare, Line3, Line4, Line2-4, by-2, by-3, by-4}
 use Rattle.refusals.proofs.Search.{one-first}
@@ -48,13 +48,14 @@ pub data Number (v : Device) (r : Rec) : ℕ → Type 0 where
 number : (v : Device) (r : Rec) → Number v r (faultIn v r)
 unfolding faultIn faultOf
 number v r =
-    picked (Number v r) (isKnown (rowOf (r .number)) r) _ _
-    (λ a. picked (Number v r) (operandsOk v (rowOf (r .number)) r) _ _
-    (λ b. picked (Number v r) (targetInWork v (rowOf (r .number)) r) _ _
-    (λ c. is-4 (not-line-2 r a) (not-line-3 v r b) (line-4 v r b c))
-    (λ c. is-0 (not-line-2 r a) (not-line-3 v r b) (not-line-4 v r c)))
-    (λ b. is-3 (not-line-2 r a) (line-3 v r b)))
-    (λ a. is-2 (line-2 r a))
+    go (isKnown (rowOf (r .number)) r) (operandsOk v (rowOf (r .number)) r) (targetInWork v (rowOf (r .number)) r) refl refl refl
+  where
+    go : (a b c : Bool) → isKnown (rowOf (r .number)) r ≡ a → operandsOk v (rowOf (r .number)) r ≡ b → targetInWork v (rowOf (r .number)) r ≡ c
+        → Number v r (pick (not a) 2 (pick (not b) 3 (pick c 4 0)))
+    go true true true a b c = is-4 (not-line-2 r a) (not-line-3 v r b) (line-4 v r b c)
+    go true true false a b c = is-0 (not-line-2 r a) (not-line-3 v r b) (not-line-4 v r c)
+    go true false z a b c = is-3 (not-line-2 r a) (line-3 v r b)
+    go false y z a b c = is-2 (line-2 r a)
 
 module _ (v : Device) (r : Rec) where
   pub none-broken : {n : ℕ} → Number v r n → n ≡ 0 → Line2-4 v r → ⊥

@@ -9,10 +9,10 @@ use Rattle.ec20.specs.declared.Verdict.the-variants.{Accepted, Refused}
 use Rattle.ec20.specs.Devices.{Device}
 use Rattle.ec20.specs.File.{countOf}
 use Rattle.ec20.specs.Code.{programOf}
-use Rattle.ec20.specs.Check.{checkFor}
+use Rattle.ec20.specs.Check.{wOf, checkFor}
 use Rattle.refusals.specs.Frame.{Line1}
 use Rattle.refusals.specs.Records.{Line2, Line3, Line4}
-use Rattle.refusals.specs.Steps.{Line8, wOf}
+use Rattle.refusals.specs.Steps.{Line8}
 use Rattle.refusals.specs.Table.{Told, told-1, told-2, told-3, told-4, told-5, told-6, told-7, told-8, accepted}
 use Rattle.refusals.specs.Table.{recordAt, Not1, Not2-4, Not5, Not6, Not7, Not8, First2-4, First5, First6, First7}
 use Rattle.refusals.proofs.Check.{told, answer}

@@ -9,7 +9,8 @@ use Rattle.ec20.specs.declared.Judged.the-variants.{Fine, Fault}
 use Rattle.ec20.specs.Basics.{pick}
 use Rattle.ec20.specs.Code.{Program}
 use Rattle.ec20.specs.Loops.{tooLong}
-use Rattle.refusals.specs.Steps.{wOf, Line8}
+use Rattle.ec20.specs.Check.{wOf}
+use Rattle.refusals.specs.Steps.{Line8}
 
 pub long : (p : Program) → Line8 p → tooLong (wOf p) ≡ Fault 8 0
 long p h = ap (λ (t : Bool). pick t Fine (Fault 8 0)) (lt-leb (wOf p) 10000000 h)

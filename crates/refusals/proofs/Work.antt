@@ -3,16 +3,15 @@ use Prim.Native.Nat.{ℕ, _+_, _-_, _<_, _≤_}
 use mathlib.Core.Bool.{true, false, _&&_}
 use mathlib.Core.Path.{_≡_, sym, ap₂, _∙_}
 use native.Mathlib.Omega.{arith}
-use lib.Dec.{eqb}
-use borrow.Author.Tests.{eqb-true, eq-eqb}
 use Rattle.ec20.specs.declared.Operand.{Operand}
 use Rattle.ec20.specs.declared.Place.{Place}
 use Rattle.ec20.specs.declared.Rec.{Rec}
-use Rattle.ec20.specs.Devices.{Device, kindD, meetsWork}
-use Rattle.ec20.specs.Operands.{allowed, inWork, operandsOk, targetInWork}
-use Rattle.ec20.specs.Table.{rowOf, isWritten}
+use Rattle.ec20.specs.Devices.{Device, meetsWork}
+use Rattle.ec20.specs.Operands.{inD, startOf, extentOf, allowed, inWork, operandsOk, targetInWork}
+use Rattle.ec20.specs.Table.{rowOf}
+use Rattle.ec20.specs.Roles.{isWritten}
 use Rattle.ec20.specs.UseMap.{someOperand}
-use Rattle.ec20.proofs.InD.{at-word, extent-in}
+use Rattle.ec20.proofs.InD.{extent-in}
 use Rattle.ec20.proofs.Ranges.{is-meets, common, common-meets}
 use Rattle.ec20.proofs.Tests.{both, differ}
 use Rattle.refusals.specs.Records.{Operand-at, Target, Work, Line4, meets}
@@ -37,16 +36,15 @@ module _ (v : Device) (r : Rec) where
   a-common : {p : Place} {o : Operand} → Operand-at r p o → allowed v p o ≡ true → inWork v p o ≡ true → Line4 v r
   unfolding inWork
   a-common {p} {o} at h e =
-      let a = both (isWritten p && eqb (o .kind) kindD) (meetsWork v (o .value) (p .extent)) e in
-      let b = both (isWritten p) (eqb (o .kind) kindD) (a .0) in
-      let k : o .kind ≡ kindD = eqb-true _ _ (b .1) in
-      let s = shared v (o .value) (p .extent) (a .1) (some-word r at (at-word v p o k h)) (extent-in v p o k h) in
-      meets (s .0) at (record { written = b .0; in-D = k; from = s .1; to = s .2 }) (s .3)
+      let a = both (isWritten p && inD o) (meetsWork v (startOf o) (extentOf p o)) e in
+      let b = both (isWritten p) (inD o) (a .0) in
+      let s = shared v (startOf o) (extentOf p o) (a .1) (some-word v r at (b .1) h) (extent-in v p o (b .1) h) in
+      meets (s .0) at (record { written = b .0; in-D = b .1; from = s .1; to = s .2 }) (s .3)
 
   in-common : (p : Place) (o : Operand) (i : ℕ) → Target p o i → Work v i → inWork v p o ≡ true
   unfolding inWork
   in-common p o i t k =
-      ap₂ _&&_ (ap₂ _&&_ (t .written) (eq-eqb _ _ (t .in-D))) (sharing v (o .value) (p .extent) i (t .from) (t .to) k)
+      ap₂ _&&_ (ap₂ _&&_ (t .written) (t .in-D)) (sharing v (startOf o) (extentOf p o) i (t .from) (t .to) k)
 
   -- the line holds of a record whose operands are allowed exactly if a target extent meets WORK
   pub line-4 : operandsOk v (rowOf (r .number)) r ≡ true → targetInWork v (rowOf (r .number)) r ≡ true → Line4 v r

@@ -5,9 +5,10 @@ use mathlib.Core.Path.{_≡_}
 use Rattle.ec20.specs.declared.Operand.{Operand}
 use Rattle.ec20.specs.declared.Place.{Place}
 use Rattle.ec20.specs.declared.Rec.{Rec}
-use Rattle.ec20.specs.Devices.{Device, kindD}
-use Rattle.ec20.specs.Operands.{allowed}
-use Rattle.ec20.specs.Table.{rowOf, isWritten, roleUnused}
+use Rattle.ec20.specs.Devices.{Device}
+use Rattle.ec20.specs.Operands.{allowed, inD, startOf, extentOf}
+use Rattle.ec20.specs.Table.{rowOf}
+use Rattle.ec20.specs.Roles.{isWritten, roleUnused}
 
 -- 2: "unknown instruction or spare byte not 0"
 pub data Line2 (r : Rec) : Type 0 where
@@ -35,13 +36,12 @@ pub data Wrong (v : Device) (p : Place) (o : Operand) : Type 0 where
 pub data Line3 (v : Device) (r : Rec) : Type 0 where
   wrong : {p : Place} {o : Operand} → Operand-at r p o → Wrong v p o → Line3 v r
 
--- word i is one of a target's extent: the place is written, the operand is in D, and i is one of as many words as the place takes, from the
--- operand's number on
+-- word i is one of a target's extent: the place is written, and i is one of the operand's words in D
 pub record Target (p : Place) (o : Operand) (i : ℕ) : Type 0 where
   pub written : isWritten p ≡ true
-  pub in-D : o .kind ≡ kindD
-  pub from : o .value ≤ i
-  pub to : i < o .value + p .extent
+  pub in-D : inD o ≡ true
+  pub from : startOf o ≤ i
+  pub to : i < startOf o + extentOf p o
 
 -- word i is in WORK: "WORK is D7900 to D7999"
 pub record Work (v : Device) (i : ℕ) : Type 0 where

@@ -1,22 +1,11 @@
 -- 6: "NEXT with no FOR open, ninth open FOR, END not last; last record not END or a FOR open there".
-use Prim.Native.Nat.{ℕ, zero, suc, _+_, _-_, _<_, _≤_}
+use Prim.Native.Nat.{ℕ, zero, suc, _+_, _<_, _≤_}
 use mathlib.Core.Path.{_≡_}
 use Rattle.ec20.specs.declared.Instr.the-variants.{For, Next, End}
-use Rattle.ec20.specs.declared.Control.{Control}
-use Rattle.ec20.specs.declared.Control.the-variants.{Plain, Opens, Closes, Jumps, Marks, Ends}
 use Rattle.ec20.specs.Code.{Program}
-use Rattle.ec20.specs.Control.{Controls, controlsOf}
+use Rattle.ec20.specs.Control.{Controls, controlsOf, openAfter}
 
--- how many loops are open after a record, of d before it: FOR one more, NEXT one less
-unfoldable pub openAfter : Control → ℕ → ℕ
-openAfter Plain d = d
-openAfter (Opens n) d = d + 1
-openAfter Closes d = d - 1
-openAfter (Jumps l) d = d
-openAfter (Marks l) d = d
-openAfter Ends d = d
-
--- how many are open before record k, in record order
+-- how many loops are open before record k, in record order
 unfoldable pub openAt : Controls → ℕ → ℕ
 openAt code zero = 0
 openAt code (suc k) = openAfter (code k) (openAt code k)

@@ -8,13 +8,14 @@ use Rattle.ec20.specs.declared.Verdict.the-variants.{Accepted, Refused}
 use Rattle.ec20.specs.Devices.{Device}
 use Rattle.ec20.specs.File.{countOf, recordsOf}
 use Rattle.ec20.specs.Code.{programOf}
+use Rattle.ec20.specs.Check.{wOf}
 use Rattle.refusals.specs.First.{First, Never}
 use Rattle.refusals.specs.Frame.{Line1}
 use Rattle.refusals.specs.Records.{Line2, Line3, Line4, Line2-4}
 use Rattle.refusals.specs.Rung.{Line5}
 use Rattle.refusals.specs.Structure.{Line6}
 use Rattle.refusals.specs.Labels.{Line7}
-use Rattle.refusals.specs.Steps.{Line8, wOf}
+use Rattle.refusals.specs.Steps.{Line8}
 
 -- record k of a file
 abbrev pub recordAt : List ℕ → ℕ → Rec

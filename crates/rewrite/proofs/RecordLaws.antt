@@ -6,11 +6,11 @@ use native.Mathlib.Decide.{decLt}
 use native.Mathlib.Omega.{arith}
 use lib.ListN.{length}
 use lib.Seq.{ext-getD}
-use borrow.Author.Tests.{le-leb, lt-leb}
+use borrow.Author.Tests.{lt-ltb, le-ltb}
 use Rattle.ec20.proofs.MovedLaws.{getD-from, length-from, comment-kept, trailer-kept, in-record}
 use Rattle.ec20.specs.Basics.{list}
 use Rattle.ec20.specs.File.{byteAt, operandAt}
-use Rattle.ec20.specs.Move.{Block, byteOf, movedNumber, movedInRecord, movedByte}
+use Rattle.ec20.specs.Move.{Block, byteOf, movedNumber, movedInOperand, movedInRecord, movedByte}
 use Rattle.rewrite.proofs.NumberLaws.{u32-length, u32-other, u32-byte, operand-after}
 use Rattle.rewrite.specs.Numbers.{withU32}
 
@@ -21,18 +21,26 @@ list-at n rule x h = let e : 0 + x ≡ x = omega arith in getD-from rule 0 n x 0
 module _ (b : Block) (q : ℕ) (f : List ℕ) (i : ℕ) where
   -- a byte of a record that is in no operand's number is as it was
   pub kind-byte : (r : ℕ) → (r - 2) % 6 < 2 → movedInRecord b q f i r ≡ byteAt f (i + r)
-  unfolding movedInRecord
-  kind-byte r h = rw (lt-leb _ _ h) refl
+  unfolding movedInRecord movedInOperand
+  kind-byte r h =
+      elim (decLt r 2) [
+        | yes l ↦ rw (lt-ltb _ _ l) refl
+        | no l ↦
+            let l′ : 2 ≤ r = omega arith in
+            let e : i + 2 + (r - 2) / 6 * 6 + (r - 2) % 6 ≡ i + r = omega arith in
+            rw (le-ltb _ _ l′, lt-ltb _ _ h, e) refl
+      ]
 
   -- byte t of operand m's number is that of the moved number
   pub number-byte : (m t : ℕ) → t < 4 → movedInRecord b q f i (m * 6 + (4 + t)) ≡ byteOf (movedNumber b q (operandAt f (i + 2 + m * 6))) t
-  unfolding movedInRecord
+  unfolding movedInRecord movedInOperand
   number-byte m t h =
+      let r : 2 ≤ m * 6 + (4 + t) = omega arith in
       let a : (m * 6 + (4 + t) - 2) / 6 ≡ m = omega arith in
       let j : (m * 6 + (4 + t) - 2) % 6 ≡ t + 2 = omega arith in
       let l : 2 ≤ t + 2 = omega arith in
       let z : t + 2 - 2 ≡ t = omega arith in
-      rw (a, j, le-leb _ _ l, z) refl
+      rw (le-ltb _ _ r, a, j, le-ltb _ _ l, z) refl
 
 -- where byte x stands to the record at byte i: in the number of operand m, elsewhere in the record, outside it
 pub data Lies (i x : ℕ) : Type 0 where

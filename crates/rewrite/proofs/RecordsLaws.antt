@@ -1,5 +1,5 @@
 -- One record more moved. Assumes nothing.
-use Prim.Native.Nat.{ℕ, _+_, _-_, _*_, _/_, _<_, _≤_}
+use Prim.Native.Nat.{ℕ, _+_, _-_, _*_, _/_, _%_, _<_, _≤_}
 use mathlib.Core.List.{List}
 use mathlib.Core.Path.{_≡_, refl, sym, ap, subst, _∙_}
 use native.Mathlib.Decide.{decLt, decLe}
@@ -10,7 +10,7 @@ use Rattle.ec20.proofs.Ranges.{within-yes, within-no}
 use Rattle.ec20.proofs.MovedLaws.{length-from, comment-kept, trailer-kept, in-record}
 use Rattle.ec20.specs.Basics.{list}
 use Rattle.ec20.specs.File.{byteAt, u32At, operandAt}
-use Rattle.ec20.specs.Move.{Block, movedInRecord, movedByte}
+use Rattle.ec20.specs.Move.{Block, movedInOperand, movedInRecord, movedByte}
 use Rattle.rewrite.proofs.RecordLaws.{list-at}
 
 module _ (b : Block) (q : ℕ) (f : List ℕ) (first : ℕ) where
@@ -47,8 +47,9 @@ module _ (b : Block) (q : ℕ) (f g : List ℕ) (i : ℕ) (same : (x : ℕ) → 
       rw (same o (omega arith) (omega arith), same (o + 1) (omega arith) (omega arith), same (o + 2) (omega arith) (omega arith), same (o + 2 + 1) (omega arith) (omega arith), same (o + 2 + 2) (omega arith) (omega arith), same (o + 2 + 3) (omega arith) (omega arith)) refl
 
   record-same : (r : ℕ) → r < 20 → movedInRecord b q g i r ≡ movedInRecord b q f i r
-  unfolding movedInRecord
-  record-same r l = rw (operand-same (i + 2 + (r - 2) / 6 * 6) (omega arith) (omega arith), same (i + r) (omega arith) (omega arith)) refl
+  unfolding movedInRecord movedInOperand
+  record-same r l =
+      rw (operand-same (i + 2 + (r - 2) / 6 * 6) (omega arith) (omega arith), same (i + r) (omega arith) (omega arith), same (i + 2 + (r - 2) / 6 * 6 + (r - 2) % 6) (omega arith) (omega arith)) refl
 
 module _ (b : Block) (q : ℕ) (f : List ℕ) (first k : ℕ) (h : first + 20 * k + 20 ≤ length f) where
   abbrev done : List ℕ

@@ -8,14 +8,13 @@ use mathlib.Core.Path.{_≡_, refl, sym, ap, subst, _∙_}
 use native.Mathlib.Decide.{decLt}
 use native.Mathlib.Omega.{arith}
 use lib.ListN.{length}
-use borrow.Author.Tests.{eqb-true}
 use Rattle.ec20.proofs.Ranges.{is-within}
 use Rattle.ec20.proofs.MovedLaws.{moved-at, comment-kept, trailer-kept, in-record}
 use Rattle.ec20.proofs.Tests.{both}
-use Rattle.ec20.specs.Devices.{kindD, within}
+use Rattle.ec20.specs.Devices.{within}
 use Rattle.ec20.specs.File.{byteAt, u32At, operandAt, firstOf, countOf}
 use Rattle.ec20.specs.Move.{Block, byteOf, movedNumber, movedInRecord, movedByte, movedFile}
-use Rattle.ec20.specs.Operands.{kindIs}
+use Rattle.ec20.specs.Operands.{inD, startOf}
 use Rattle.ec20.specs.declared.Operand.{Operand}
 use Rattle.rewrite.proofs.NumberLaws.{u32-read}
 use Rattle.rewrite.proofs.RecordLaws.{kind-byte, number-byte, Lies, lies, number, other, outside}
@@ -25,23 +24,23 @@ value-at : (f : List ℕ) (o : ℕ) → operandAt f o .value ≡ u32At f (o + 2)
 unfolding operandAt
 value-at f o = refl
 
--- a number that is not D, or not in the block, stays
-number-stays : (b : Block) (q : ℕ) (o : Operand) → (kindIs kindD o && within (b .start) (b .length) (o .value)) ≡ false → movedNumber b q o ≡ o .value
+-- the number of an operand with no words in D, or with words that do not begin in the block, stays
+number-stays : (b : Block) (q : ℕ) (o : Operand) → (inD o && within (b .start) (b .length) (startOf o)) ≡ false → movedNumber b q o ≡ o .value
 unfolding movedNumber
 number-stays b q o e = rw e refl
 
 module _ (b : Block) (q : ℕ) (f : List ℕ) (small : (k : ℕ) → byteAt f k < 256) where
   -- byte t of operand m's number of record k
   by-test : (k m t : ℕ) → k < countOf f → m < 3 → t < 4 → (z : Bool)
-      → (kindIs kindD (operandAt f (firstOf f + k * 20 + 2 + m * 6)) && within (b .start) (b .length) (operandAt f (firstOf f + k * 20 + 2 + m * 6) .value)) ≡ z
+      → (inD (operandAt f (firstOf f + k * 20 + 2 + m * 6)) && within (b .start) (b .length) (startOf (operandAt f (firstOf f + k * 20 + 2 + m * 6)))) ≡ z
       → (byteOf (movedNumber b q (operandAt f (firstOf f + k * 20 + 2 + m * 6))) t ≡ byteAt f (firstOf f + k * 20 + 2 + m * 6 + 2 + t))
       ⊎ InNumber b f (firstOf f + k * 20 + 2 + m * 6 + 2 + t)
   by-test k m t hk hm ht true e =
       let o : ℕ = firstOf f + k * 20 + 2 + m * 6 in
-      let g = both (kindIs kindD (operandAt f o)) (within (b .start) (b .length) (operandAt f o .value)) e in
-      let w = is-within (b .start) (b .length) (operandAt f o .value) (g .1) in
+      let g = both (inD (operandAt f o)) (within (b .start) (b .length) (startOf (operandAt f o))) e in
+      let w = is-within (b .start) (b .length) (startOf (operandAt f o)) (g .1) in
       inr
-      (record { k = k; m = m; t = t; of-records = hk; of-operands = hm; of-bytes = ht; at = refl; in-D = eqb-true _ _ (g .0); from = w .0; to = w .1 })
+      (record { k = k; m = m; t = t; of-records = hk; of-operands = hm; of-bytes = ht; at = refl; in-D = g .0; from = w .0; to = w .1 })
   by-test k m t hk hm ht false e =
       let o : ℕ = firstOf f + k * 20 + 2 + m * 6 in
       inl (ap (λ (x : ℕ). byteOf x t) (number-stays b q (operandAt f o) e ∙ value-at f o) ∙ u32-read f (o + 2) small t ht)
@@ -57,7 +56,7 @@ module _ (b : Block) (q : ℕ) (f : List ℕ) (small : (k : ℕ) → byteAt f k 
       let o : ℕ = i + 2 + m * 6 in
       let z : r ≡ m * 6 + (4 + t) = omega arith in
       let y : i + r ≡ o + 2 + t = omega arith in
-      elim (by-test k m t hk hm ht (kindIs kindD (operandAt f o) && within (b .start) (b .length) (operandAt f o .value)) refl) [
+      elim (by-test k m t hk hm ht (inD (operandAt f o) && within (b .start) (b .length) (startOf (operandAt f o))) refl) [
         | inl g ↦ inl (ap (movedInRecord b q f i) z ∙ number-byte b q f i m t ht ∙ g ∙ ap (byteAt f) (sym y))
         | inr g ↦ inr (subst (InNumber b f) (sym y) g)
       ]

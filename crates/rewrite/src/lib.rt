@@ -19,13 +19,13 @@ fn put_u32(f: &mut [u8], i: usize, v: usize)
     f[i + 3] = (v / 16777216 % 256) as u8;
 }
 
-// The operand at byte i: its number, if it is D and in the block, goes along with the block.
+// The operand at byte i: its number, if its words in D begin in the block, goes along with the block.
 fn move_operand(f: &mut [u8], i: usize, start: usize, n: usize, place: usize)
     requires { ⌜ (i + 6 ≤ length (now f)) × Below start n place ⌝ }
     ensures { λ _. ⌜ now (f .exit) ≡ withU32 (now (f .entry)) (i + 2) (movedNumber (block start n) place (operandAt (now (f .entry)) i)) ⌝ }
 {
     let o = records::operand_at(f, i);
-    if (o.kind == 7) & blocks::within(start, n, o.value) {
+    if extents::in_d(o) & blocks::within(start, n, extents::start(o)) {
         put_u32(f, i + 2, o.value - start + place);
     }
 }

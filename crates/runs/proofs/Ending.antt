@@ -30,7 +30,7 @@ module _ (p : Program) where
   close-keeps : (w : World) → closeOf w .st .ended ≡ w .st .ended
   unfolding closeOf
   close-keeps w =
-      picked (λ (u : World). u .st .ended ≡ w .st .ended) (ltb 1 (getD (w .left) (w .st .depth - 1) 0)) _ _ (λ _. refl) (λ _. refl)
+      picked (λ (u : World). u .st .ended ≡ w .st .ended) (ltb 1 (getD (w .loops .left) (w .st .depth - 1) 0)) _ _ (λ _. refl) (λ _. refl)
 
   exec-met : (e : ℕ) (w : World) (i : Instr) → Met (ends (controlOf i)) w (execOf p e i w)
   unfolding ends controlOf execOf jumpOf

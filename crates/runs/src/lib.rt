@@ -85,8 +85,7 @@ pub fn run(
     f: &[u8],
     first: usize,
     count: usize,
-    nexts: &[usize; 2000],
-    places: &[usize; 128],
+    goes: &[usize; 2000],
     e: usize,
     budget: usize,
     x: &[u8],
@@ -97,7 +96,7 @@ pub fn run(
     d: &mut [i16],
     tv: &mut [i16],
 ) -> Scanned
-    requires { ⌜ Running (now rows) (now f) first count (now nexts) (now places) e ⌝ }
+    requires { ⌜ Running (now rows) (now f) first count (now goes) e ⌝ }
     ensures { λ r. ⌜ scan r (memory (now (x .entry)) (now (y .exit)) (now (m .exit)) (now (sm .exit)) (now (t .exit)) (now (d .exit)) (now (tv .exit))) ≡ ranFrom (programIn (recordsFrom (now (f .entry)) first count)) e budget (memory (now (x .entry)) (now (y .entry)) (now (m .entry)) (now (sm .entry)) (now (t .entry)) (now (d .entry)) (now (tv .entry))) ⌝ }
 {
     let mut left = [0usize; 8];
@@ -114,8 +113,7 @@ pub fn run(
             f,
             first,
             count,
-            nexts,
-            places,
+            goes,
             e,
             x,
             y,

@@ -36,8 +36,8 @@ pub outside-work : (n a q : ℕ) → isOfCoils n ≡ false → eqb n readRegiste
     → (j : ℕ) → j < meant n q → i ≡ a + j → ⊥
 unfolding rangeFits
 outside-work n a q c r h =
-    let t : (leb (a + meant n q) 8000 && (eqb n readRegisters || not (meetsWork ec20 a (meant n q)))) ≡ true = rw (sym h, c) in
-    apart a (meant n q) (rw (sym (both (leb (a + meant n q) 8000) _ t .1), r))
+    let t : (leb (a + meant n q) 8000 && not (meetsWork ec20 a (meant n q))) ≡ true = rw (c, r) at h in
+    apart a (meant n q) (both (leb (a + meant n q) 8000) _ t .1)
 
 -- ---- registers
 

@@ -19,7 +19,7 @@ fn touches(start: usize, n: usize, p: Place, o: Operand) -> bool
     requires { ⌜ (start < 2 ^ 32) × (n < 2 ^ 32) × Small o ⌝ }
     ensures { λ r. ⌜ r ≡ touchesOf (block start n) p o ⌝ }
 {
-    (o.kind == 7) & blocks::meets(o.value, records::wide(p.extent), start, n)
+    extents::in_d(o) & blocks::meets(extents::start(o), extents::length(p, o), start, n)
 }
 
 // It meets them, and is not inside them.
@@ -27,7 +27,7 @@ fn partly(start: usize, n: usize, p: Place, o: Operand) -> bool
     requires { ⌜ (start < 2 ^ 32) × (n < 2 ^ 32) × Small o ⌝ }
     ensures { λ r. ⌜ r ≡ partlyOf (block start n) p o ⌝ }
 {
-    touches(start, n, p, o) & !blocks::inside(o.value, records::wide(p.extent), start, n)
+    touches(start, n, p, o) & !blocks::inside(extents::start(o), extents::length(p, o), start, n)
 }
 
 // One of the record's operands does, by this row.

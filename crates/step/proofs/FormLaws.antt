@@ -9,17 +9,17 @@ use native.Mathlib.Decide.{ℕ-discrete, decLt}
 use borrow.Author.Tests.{lt-ltb, le-ltb, eqb-true, eq-eqb, ne-eqb, leb-true, lt-leb, le-leb}
 use lib.Dec.{eqb, leb}
 use lib.ListN.{getD}
-use Rattle.ec20.specs.Basics.{pick}
 use Rattle.ec20.specs.Code.{instrBy, codeOf, programIn}
-use Rattle.ec20.specs.Control.{controlOf, controlsOf, nextOf, orPast}
+use Rattle.ec20.specs.Control.{controlOf, controlsOf, nextOfFor, firstLabel, orPast}
 use Rattle.ec20.specs.File.{recordsFrom, recordFrom, operandAt, u32At, byteAt}
 use Rattle.ec20.specs.Step.{widthOf}
-use Rattle.ec20.specs.Table.{table, rowOf, formNop, formCompare, formThree}
-use Rattle.ec20.specs.declared.Row.{Row}
+use Rattle.ec20.specs.Table.{table, rowOf}
+use Rattle.ec20.specs.Forms.{formNop, formCompare, formThree}
 use Rattle.ec20.proofs.Tests.{differ}
+use Rattle.jumps.proofs.Within.{goes-in}
+use Rattle.jumps.specs.Prepared.{goesTo, Prepared}
 use Rattle.instructions.proofs.Keys.{None, beside, past}
 use Rattle.instructions.proofs.Rows.{everyBelow, at-every}
-use Rattle.ec20.specs.declared.Instr.{Instr}
 use Rattle.ec20.specs.declared.Instr.the-variants.{Nop, Contact, Compare, Join, Branch, Coil, Timer, For, Next, Jump, Label, End, Word}
 use Rattle.ec20.specs.declared.Machine.{Machine}
 use Rattle.ec20.specs.declared.Operand.{Operand}
@@ -189,8 +189,25 @@ module _ {f : List ℕ} {first count n i : ℕ} {s : Machine} (d : Due f first c
   unfolding instrBy
   plain l w h = code ∙ rw (none n (d .known) l w h) refl
 
-  -- a FOR's NEXT is looked up
-  pub next-there : {rows : List (List ℕ)} {nexts places : List ℕ} {e o k : ℕ} → Running rows f first count nexts places e → n ≡ k → rowOf k .form ≡ 7 → o ≡ u32At f (i + 4)
-      → getD nexts (s .pc) 0 ≡ orPast count (nextOf (controlsOf (programIn (recordsFrom f first count))) count (s .pc))
-  unfolding controlOf
-  next-there r q g a = r .prepared .next (s .pc) _ (d .here) (ap controlOf (opens q g a))
+  module _ {rows : List (List ℕ)} {goes : List ℕ} {e : ℕ} (r : Running rows f first count goes e) where
+    -- where the record due goes is looked up
+    goes-there : getD goes (s .pc) 0 ≡ goesTo (controlsOf (programIn (recordsFrom f first count))) count (s .pc) (controlsOf (programIn (recordsFrom f first count)) (s .pc))
+    unfolding Prepared
+    goes-there = r .prepared (s .pc)
+
+    pub goes-near : getD goes (s .pc) 0 ≤ 2000
+    goes-near =
+        let code = controlsOf (programIn (recordsFrom f first count)) in
+        omega (arith, goes-there, goes-in code count (s .pc) (code (s .pc)), r .held .most)
+
+    -- of a FOR its NEXT
+    pub next-there : {o k : ℕ} → n ≡ k → rowOf k .form ≡ 7 → o ≡ u32At f (i + 4)
+        → getD goes (s .pc) 0 ≡ orPast count (nextOfFor (controlsOf (programIn (recordsFrom f first count))) count (s .pc))
+    unfolding goesTo controlOf
+    next-there q g a = goes-there ∙ rw (opens q g a) refl
+
+    -- of a CJ its label
+    pub label-there : {o k : ℕ} → n ≡ k → rowOf k .form ≡ 9 → o ≡ u32At f (i + 4)
+        → getD goes (s .pc) 0 ≡ orPast count (firstLabel (controlsOf (programIn (recordsFrom f first count))) count o)
+    unfolding goesTo controlOf
+    label-there q g a = goes-there ∙ rw (jumps q g a) refl

@@ -1,9 +1,9 @@
--- What a step needs: the file's records, the places looked up for this run, and a state in its range.
+-- What a step needs: the file's records, where they go, looked up for this run, and a state in its range.
 use Prim.Native.Nat.{ℕ, _+_, _*_, _<_, _≤_, _^_}
 use mathlib.Core.List.{List}
 use mathlib.Core.Logic.{_⊎_}
 use mathlib.Core.Path.{_≡_}
-use lib.ListN.{getD, length}
+use lib.ListN.{length}
 use Rattle.ec20.specs.Code.{programIn}
 use Rattle.ec20.specs.Control.{controlsOf}
 use Rattle.ec20.specs.File.{recordsFrom, byteAt}
@@ -16,12 +16,11 @@ use Rattle.records.specs.Ranges.{Held}
 abbrev pub Known : List ℕ → ℕ → ℕ → Type 0
 Known f first count = (k : ℕ) → k < count → byteAt f (first + 20 * k) < 56
 
--- of a run: the instruction table, `count` records from the byte `first` on, whose numbers the instruction table has, the places of NEXT and labels, the elapsed units
-pub record Running (rows : List (List ℕ)) (f : List ℕ) (first count : ℕ) (nexts places : List ℕ) (e : ℕ) : Type 0 where
+-- of a run: the instruction table, `count` records from the byte `first` on, whose numbers the instruction table has, where they go, the elapsed units
+pub record Running (rows : List (List ℕ)) (f : List ℕ) (first count : ℕ) (goes : List ℕ) (e : ℕ) : Type 0 where
   pub table : rows ≡ cells
   pub held : Held (length f) first count
-  pub prepared : Prepared (controlsOf (programIn (recordsFrom f first count))) count nexts places
-  pub near : (k : ℕ) → getD nexts k 0 ≤ 2000
+  pub prepared : Prepared (controlsOf (programIn (recordsFrom f first count))) count goes
   pub known : Known f first count
   pub elapsed : e ≤ 32767
 

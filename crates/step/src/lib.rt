@@ -4,7 +4,7 @@ ghost use Rattle.ec20.specs.Flow.{isOn, acted, compareOf, coilOf};
 ghost use Rattle.ec20.specs.Memory.{memory, loadOf};
 ghost use Rattle.ec20.specs.Code.{programIn};
 ghost use Rattle.ec20.specs.File.{recordsFrom};
-ghost use Rattle.ec20.specs.Step.{world, stepOf};
+ghost use Rattle.ec20.specs.Step.{Open, openLoops, world, stepOf};
 ghost use Rattle.instructions.specs.Cells.{cells};
 ghost use Rattle.step.specs.Ready.{Running, Due, Left};
 ghost use Rattle.ec20.specs.Timers.{timerOf};
@@ -38,7 +38,7 @@ fn compare<'a>(
 // OUT, SET, RST.
 fn coil(n: usize, o: Operand, y: &mut [u8], m: &mut [u8], s: Machine) -> Machine
     requires { ⌜ s .pc < 2 ^ 63 ⌝ }
-    ensures { λ q. ⌜ ((x sm t left back : List ℕ) (d tv : List ℤ) → world (memory x (now (y .exit)) (now (m .exit)) sm t d tv) left back q ≡ world (coilOf n o (isOn s) (memory x (now (y .entry)) (now (m .entry)) sm t d tv)) left back (acted s)) ⌝ }
+    ensures { λ q. ⌜ ((x sm t : List ℕ) (d tv : List ℤ) (u : Open) → world (memory x (now (y .exit)) (now (m .exit)) sm t d tv) u q ≡ world (coilOf n o (isOn s) (memory x (now (y .entry)) (now (m .entry)) sm t d tv)) u (acted s)) ⌝ }
 {
     operands::coil(n, o, flow::is_on(s), y, m);
     flow::act(s)
@@ -54,7 +54,7 @@ fn timer(
     s: Machine,
 ) -> Machine
     requires { ⌜ (s .pc < 2 ^ 63) × (elapsed ≤ 32767) ⌝ }
-    ensures { λ q. ⌜ ((x y m sm left back : List ℕ) (d : List ℤ) → world (memory x y m sm (now (t .exit)) d (now (tv .exit))) left back q ≡ world (timerOf elapsed i constant (isOn s) (memory x y m sm (now (t .entry)) d (now (tv .entry)))) left back (acted s)) ⌝ }
+    ensures { λ q. ⌜ ((x y m sm : List ℕ) (d : List ℤ) (o : Open) → world (memory x y m sm (now (t .exit)) d (now (tv .exit))) o q ≡ world (timerOf elapsed i constant (isOn s) (memory x y m sm (now (t .entry)) d (now (tv .entry)))) o (acted s)) ⌝ }
 {
     operands::timer(elapsed, i, constant, flow::is_on(s), t, tv);
     flow::act(s)
@@ -80,7 +80,7 @@ fn rest(
     requires { ⌜ Due (now f) first count n i s ⌝ }
     requires { ⌜ Left n ⌝ }
     requires { ⌜ now rows ≡ cells ⌝ }
-    ensures { λ q. ⌜ ((t left back : List ℕ) → world (memory (now (x .entry)) (now (y .exit)) (now (m .exit)) (now (sm .exit)) t (now (d .exit)) (now (tv .entry))) left back q ≡ stepOf (programIn (recordsFrom (now (f .entry)) first count)) e (world (memory (now (x .entry)) (now (y .entry)) (now (m .entry)) (now (sm .entry)) t (now (d .entry)) (now (tv .entry))) left back s)) ⌝ }
+    ensures { λ q. ⌜ ((t : List ℕ) (o : Open) → world (memory (now (x .entry)) (now (y .exit)) (now (m .exit)) (now (sm .exit)) t (now (d .exit)) (now (tv .entry))) o q ≡ stepOf (programIn (recordsFrom (now (f .entry)) first count)) e (world (memory (now (x .entry)) (now (y .entry)) (now (m .entry)) (now (sm .entry)) t (now (d .entry)) (now (tv .entry))) o s)) ⌝ }
 {
     let form = instructions::form_at(rows, n);
     if form >= 12 {
@@ -104,8 +104,7 @@ fn exec(
     f: &[u8],
     first: usize,
     count: usize,
-    nexts: &[usize; 2000],
-    places: &[usize; 128],
+    goes: &[usize; 2000],
     e: usize,
     x: &[u8],
     y: &mut [u8],
@@ -118,9 +117,9 @@ fn exec(
     back: &mut [usize; 8],
     s: Machine,
 ) -> Machine
-    requires { ⌜ Running (now rows) (now f) first count (now nexts) (now places) e ⌝ }
+    requires { ⌜ Running (now rows) (now f) first count (now goes) e ⌝ }
     requires { ⌜ Due (now f) first count n i s ⌝ }
-    ensures { λ q. ⌜ world (memory (now (x .entry)) (now (y .exit)) (now (m .exit)) (now (sm .exit)) (now (t .exit)) (now (d .exit)) (now (tv .exit))) (now (left .exit)) (now (back .exit)) q ≡ stepOf (programIn (recordsFrom (now (f .entry)) first count)) e (world (memory (now (x .entry)) (now (y .entry)) (now (m .entry)) (now (sm .entry)) (now (t .entry)) (now (d .entry)) (now (tv .entry))) (now (left .entry)) (now (back .entry)) s) ⌝ }
+    ensures { λ q. ⌜ world (memory (now (x .entry)) (now (y .exit)) (now (m .exit)) (now (sm .exit)) (now (t .exit)) (now (d .exit)) (now (tv .exit))) (openLoops (now (left .exit)) (now (back .exit))) q ≡ stepOf (programIn (recordsFrom (now (f .entry)) first count)) e (world (memory (now (x .entry)) (now (y .entry)) (now (m .entry)) (now (sm .entry)) (now (t .entry)) (now (d .entry)) (now (tv .entry))) (openLoops (now (left .entry)) (now (back .entry))) s) ⌝ }
 {
     match n {
         0 => flow::go_on(s),
@@ -164,9 +163,9 @@ fn exec(
             tv,
             s,
         ),
-        19 => jumps::open_loop(records::u32_at(f, i + 4), nexts, left, back, s),
+        19 => jumps::open_loop(records::u32_at(f, i + 4), goes, left, back, s),
         20 => jumps::close_loop(left, back, s),
-        21 => jumps::jump(f, first, count, places, records::u32_at(f, i + 4), s),
+        21 => jumps::jump(goes, s),
         22 => flow::go_to(s, s.pc + 1, s.depth),
         23 => flow::stop(s),
         _ => rest(rows, n, i, f, first, count, e, x, y, m, sm, d, tv, s),
@@ -179,8 +178,7 @@ pub fn step(
     f: &[u8],
     first: usize,
     count: usize,
-    nexts: &[usize; 2000],
-    places: &[usize; 128],
+    goes: &[usize; 2000],
     e: usize,
     x: &[u8],
     y: &mut [u8],
@@ -193,9 +191,9 @@ pub fn step(
     back: &mut [usize; 8],
     s: Machine,
 ) -> Machine
-    requires { ⌜ Running (now rows) (now f) first count (now nexts) (now places) e ⌝ }
+    requires { ⌜ Running (now rows) (now f) first count (now goes) e ⌝ }
     requires { ⌜ (s .depth ≤ 8) × (s .pc < 2 ^ 63) ⌝ }
-    ensures { λ q. ⌜ world (memory (now (x .entry)) (now (y .exit)) (now (m .exit)) (now (sm .exit)) (now (t .exit)) (now (d .exit)) (now (tv .exit))) (now (left .exit)) (now (back .exit)) q ≡ stepOf (programIn (recordsFrom (now (f .entry)) first count)) e (world (memory (now (x .entry)) (now (y .entry)) (now (m .entry)) (now (sm .entry)) (now (t .entry)) (now (d .entry)) (now (tv .entry))) (now (left .entry)) (now (back .entry)) s) ⌝ }
+    ensures { λ q. ⌜ world (memory (now (x .entry)) (now (y .exit)) (now (m .exit)) (now (sm .exit)) (now (t .exit)) (now (d .exit)) (now (tv .exit))) (openLoops (now (left .exit)) (now (back .exit))) q ≡ stepOf (programIn (recordsFrom (now (f .entry)) first count)) e (world (memory (now (x .entry)) (now (y .entry)) (now (m .entry)) (now (sm .entry)) (now (t .entry)) (now (d .entry)) (now (tv .entry))) (openLoops (now (left .entry)) (now (back .entry))) s) ⌝ }
 {
     if count <= s.pc {
         return flow::stop(s);
@@ -209,8 +207,7 @@ pub fn step(
         f,
         first,
         count,
-        nexts,
-        places,
+        goes,
         e,
         x,
         y,

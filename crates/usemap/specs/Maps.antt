@@ -3,7 +3,7 @@ use Prim.Native.Nat.{ℕ}
 use mathlib.Core.Bool.{Bool, _&&_}
 use Rattle.ec20.specs.Devices.{ec20}
 use Rattle.ec20.specs.File.{Records}
-use Rattle.ec20.specs.Table.{isRead, isWritten}
+use Rattle.ec20.specs.Roles.{isRead, isWritten}
 use Rattle.ec20.specs.UseMap.{holds, markedRead, markedWritten, mapOf, blankMap}
 use Rattle.ec20.specs.declared.Mapped.{Mapped}
 use Rattle.ec20.specs.declared.Operand.{Operand}

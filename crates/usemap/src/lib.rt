@@ -1,7 +1,7 @@
 // The use map: which of the 8,000 D words an accepted program reads, and which it writes, two maps of 1,000 bytes by value.
 ghost use Rattle.ec20.specs.Devices.{ec20};
 ghost use Rattle.ec20.specs.File.{framed, recordsFrom, recordsOf};
-ghost use Rattle.ec20.specs.Table.{isRead, isWritten};
+ghost use Rattle.ec20.specs.Roles.{isRead, isWritten};
 ghost use Rattle.ec20.specs.UseMap.{holds, someOperand, useMapOf};
 ghost use Rattle.instructions.specs.Cells.{cells};
 ghost use Rattle.marks.specs.Marked.{Widened};

@@ -7,19 +7,19 @@ use Rattle.actions.proofs.word.Statement.{statement}
 use Rattle.actions.proofs.word.Tie as tie
 
 returns : tie.Need-returns
-returns c = λ b l k. word-off _ _ _ _ _ _ _ _ (sym (c .before .before .is-on .ensures) ∙ not-true _ (c .before .if1 .taken)) (c .act .ensures)
+returns c = λ b o. word-off _ _ _ _ _ _ _ (sym (c .before .before .is-on .ensures) ∙ not-true _ (c .before .if1 .taken)) (c .act .ensures)
 
 act16-requires : tie.Need-act16-requires
 act16-requires c κs = (c .before .before .before .before .before .before .before .before .before .before .before .before .before .pre .0, is-16 (c .before .before .before .before .before .before .before .before .before .before .before .before .before .pre .1 .0) (sym (c .before .before .before .before .before .width-at .ensures) ∙ c .before .before .before .before .if2 .taken))
 
 returns-2 : tie.Need-returns-2
-returns-2 c = λ b l k. word-on _ _ _ _ _ _ _ _ (sym (c .before .before .before .before .before .before .before .before .before .before .before .before .before .before .before .before .is-on .ensures) ∙ not-false _ (c .before .before .before .before .before .before .before .before .before .before .before .before .before .before .before .if1 .left)) (c .before .before .before .before .before .before .before .before .act16 .ensures b) (c .settled .ensures)
+returns-2 c = λ b o. word-on _ _ _ _ _ _ _ (sym (c .before .before .before .before .before .before .before .before .before .before .before .before .before .before .before .before .is-on .ensures) ∙ not-false _ (c .before .before .before .before .before .before .before .before .before .before .before .before .before .before .before .if1 .left)) (c .before .before .before .before .before .before .before .before .act16 .ensures b) (c .settled .ensures)
 
 act32-requires : tie.Need-act32-requires
 act32-requires c κs = (c .before .before .before .before .before .before .before .before .before .before .before .before .before .pre .0, not-16 (c .before .before .before .before .before .before .before .before .before .before .before .before .before .pre .1 .0) (λ e. c .before .before .before .before .if2 .left (c .before .before .before .before .before .width-at .ensures ∙ e)))
 
 returns-3 : tie.Need-returns-3
-returns-3 c = λ b l k. word-on _ _ _ _ _ _ _ _ (sym (c .before .before .before .before .before .before .before .before .before .before .before .before .before .before .before .before .is-on .ensures) ∙ not-false _ (c .before .before .before .before .before .before .before .before .before .before .before .before .before .before .before .if1 .left)) (c .before .before .before .before .before .before .before .before .act32 .ensures b) (c .settled2 .ensures)
+returns-3 c = λ b o. word-on _ _ _ _ _ _ _ (sym (c .before .before .before .before .before .before .before .before .before .before .before .before .before .before .before .before .is-on .ensures) ∙ not-false _ (c .before .before .before .before .before .before .before .before .before .before .before .before .before .before .before .if1 .left)) (c .before .before .before .before .before .before .before .before .act32 .ensures b) (c .settled2 .ensures)
 
 pub word-spec : {M : Type 1} → statement M
 word-spec =

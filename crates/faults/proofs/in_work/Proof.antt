@@ -6,7 +6,7 @@ use Rattle.faults.proofs.in_work.Tie as tie
 
 returns : tie.Need-returns
 unfolding inWork
-returns c = rw (c .meets-work .ensures, c .before .wide .ensures .0) refl
+returns c = rw (c .meets-work .ensures, c .before .length .ensures .0, c .before .before .start .ensures .0, c .before .before .before .in-d .ensures) refl
 
 pub in-work-spec : {M : Type 1} → statement M
-in-work-spec = tie.close (tie.spec (λ c κs. search needs) (λ c κs. search needs) returns)
+in-work-spec = tie.close (tie.spec (λ c κs. search needs) (λ c κs. search needs) (λ c κs. search needs) (λ c κs. search needs) returns)

@@ -4,7 +4,7 @@ use mathlib.Core.Path.{_≡_, refl, sym, _∙_}
 use native.Mathlib.Omega.{arith}
 use Prim.Native.Nat.{_-_, _≤_}
 use Rattle.ec20.specs.Code.{programIn}
-use Rattle.ec20.specs.Control.{controlsOf, findFrom}
+use Rattle.ec20.specs.Control.{controlsOf, foundInBody}
 use Rattle.ec20.specs.File.{recordsFrom}
 use Rattle.labels.proofs.Laws.{hit, stop, on, over, near}
 use Rattle.labels.specs.Want.{wantOf}
@@ -13,7 +13,7 @@ use Rattle.labels.proofs.find.Tie as tie
 
 abbrev Inv-loop : tie.InvT-loop
 Inv-loop f first count from w k₀ d₀ k d =
-    (d ≤ k) × (findFrom (controlsOf (programIn (recordsFrom f first count))) count (wantOf w) from 0 ≡ findFrom (controlsOf (programIn (recordsFrom f first count))) count (wantOf w) k d)
+    (d ≤ k) × (foundInBody (controlsOf (programIn (recordsFrom f first count))) count (wantOf w) 0 from ≡ foundInBody (controlsOf (programIn (recordsFrom f first count))) count (wantOf w) d k)
 
 abbrev μ-loop : tie.MeasureT-loop
 μ-loop f first count from w k₀ d₀ k d = count - k

@@ -12,7 +12,7 @@ use Rattle.labels.proofs.first_from.Tie as tie
 
 abbrev Inv-loop : tie.InvT-loop
 Inv-loop f first count table from k₀ k =
-    refusedAt 7 (firstAt (λ j. labelFault (controlsOf (programIn (recordsFrom f first count))) count j ((controlsOf (programIn (recordsFrom f first count))) j)) (count - from) from) ≡ refusedAt 7 (firstAt (λ j. labelFault (controlsOf (programIn (recordsFrom f first count))) count j ((controlsOf (programIn (recordsFrom f first count))) j)) (count - k) k)
+    refusedAt 7 (firstAt (λ j. labelFault (controlsOf (programIn (recordsFrom f first count))) count j ((controlsOf (programIn (recordsFrom f first count))) j)) from (count - from)) ≡ refusedAt 7 (firstAt (λ j. labelFault (controlsOf (programIn (recordsFrom f first count))) count j ((controlsOf (programIn (recordsFrom f first count))) j)) k (count - k))
 
 abbrev μ-loop : tie.MeasureT-loop
 μ-loop f first count table from k₀ k = count - k

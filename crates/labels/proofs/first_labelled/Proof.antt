@@ -13,7 +13,7 @@ use Rattle.labels.proofs.first_labelled.Tie as tie
 
 abbrev Inv-loop : tie.InvT-loop
 Inv-loop f first count k₀ k =
-    firstUnlabelled (controlsOf (programIn (recordsFrom f first count))) count ≡ refusedAt 7 (firstAt (λ j. labelFault (controlsOf (programIn (recordsFrom f first count))) count j ((controlsOf (programIn (recordsFrom f first count))) j)) (count - k) k)
+    firstUnlabelled (controlsOf (programIn (recordsFrom f first count))) count ≡ refusedAt 7 (firstAt (λ j. labelFault (controlsOf (programIn (recordsFrom f first count))) count j ((controlsOf (programIn (recordsFrom f first count))) j)) k (count - k))
 
 abbrev μ-loop : tie.MeasureT-loop
 μ-loop f first count k₀ k = count - k

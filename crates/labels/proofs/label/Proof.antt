@@ -5,7 +5,7 @@ use native.Mathlib.Nat.{sub-zero}
 use Prim.Native.Nat.{_-_}
 use Rattle.ec20.specs.Basics.{firstAt}
 use Rattle.ec20.specs.Code.{programIn}
-use Rattle.ec20.specs.Control.{controlsOf, marks, labelOf}
+use Rattle.ec20.specs.Control.{controlsOf, marks, firstLabel}
 use Rattle.ec20.specs.File.{recordsFrom}
 use Rattle.labels.proofs.Laws.{passes, fails, none}
 use Rattle.labels.proofs.label.Statement.{statement}
@@ -13,7 +13,7 @@ use Rattle.labels.proofs.label.Tie as tie
 
 abbrev Inv-loop : tie.InvT-loop
 Inv-loop f first count l k₀ k =
-    labelOf (controlsOf (programIn (recordsFrom f first count))) count l ≡ firstAt (λ j. marks l (controlsOf (programIn (recordsFrom f first count)) j)) (count - k) k
+    firstLabel (controlsOf (programIn (recordsFrom f first count))) count l ≡ firstAt (λ j. marks l (controlsOf (programIn (recordsFrom f first count)) j)) k (count - k)
 
 abbrev μ-loop : tie.MeasureT-loop
 μ-loop f first count l k₀ k = count - k

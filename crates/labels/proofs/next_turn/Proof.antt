@@ -1,5 +1,6 @@
 use borrow.Author.Tests.{eq-eqb, ne-eqb}
-use Rattle.ec20.specs.Control.{closes, marks, shiftOf, turnOf}
+use Rattle.ec20.specs.Control.{closes, marks}
+use Rattle.ec20.specs.Walkers.{shiftOf, turnOf}
 use borrow.Author.Needs.{needs}
 use Rattle.labels.proofs.next_turn.Statement.{statement}
 use Rattle.labels.proofs.next_turn.Tie as tie

@@ -52,36 +52,36 @@ sequence-calls t =
 
 in-loop-sequence-requires : (t : ℕ) → in-loop-lts.Need-sequence-requires (in-loop-calls t) (in-loop-at t) in-loop.Post
 in-loop-sequence-requires t c κs =
-    let e = sym (c .before .before .asked .ensures) ∙ c .enum-told .given .1 in
-    let h = go-in _ _ _ _ (omega arith) e in
+    let e = sym (c .before .before .before .asked .ensures) ∙ c .before .n .given .1 in
+    let h = go-in _ _ _ _ (omega arith) _ e in
     search needs
 
 in-loop-add-requires : (t : ℕ) → in-loop-lts.Need-add-requires (in-loop-calls t) (in-loop-at t) in-loop.Post
 in-loop-add-requires t c κs =
-    let e = sym (c .before .before .before .asked .ensures) ∙ c .before .enum-told .given .1 in
-    let h = go-in _ _ _ _ (omega arith) e in
-    (omega arith, small _ _ _ _ h _ (omega arith) (c .sequence .ensures))
+    let e = sym (c .before .before .before .before .asked .ensures) ∙ c .before .before .n .given .1 in
+    let h = go-in _ _ _ _ (omega arith) _ e in
+    (h .1, small _ _ _ _ (h .0) _ (omega arith) (c .sequence .ensures))
 
 in-loop-closed-requires : (t : ℕ) → in-loop-lts.Need-closed-requires (in-loop-calls t) (in-loop-at t) in-loop.Post
 in-loop-closed-requires t c κs =
-    let e = sym (c .before .before .before .before .asked .ensures) ∙ c .before .before .enum-told .given .1 in
-    rw (c .add .ensures) (small _ _ _ _ (omega arith) _ (omega arith) (go _ _ _ _ (omega arith) _ e (c .before .sequence .ensures)))
+    let e = sym (c .before .before .before .before .before .asked .ensures) ∙ c .before .before .before .n .given .1 in
+    rw (c .add .ensures) (small _ _ _ _ (omega arith) _ (omega arith) (go _ _ _ _ (omega arith) _ _ e (c .before .sequence .ensures)))
 
 in-loop-add-in-loop : (t : ℕ) → in-loop-lts.Need-add-in-loop (in-loop-calls t) (in-loop-at t) in-loop.Post
 in-loop-add-in-loop t c =
-    let e = sym (c .before .before .before .asked .ensures) ∙ c .before .n .given .1 in
+    let e = sym (c .before .before .before .asked .ensures) ∙ c .before .n2 .given .1 in
     let h = enter-in _ _ _ _ (omega arith) _ e in
     omega arith
 
 in-loop-in-loop-requires : (t : ℕ) → in-loop-lts.Need-in-loop-requires (in-loop-calls t) (in-loop-at t) in-loop.Post
 in-loop-in-loop-requires t c κs =
-    let e = sym (c .before .before .before .asked .ensures) ∙ c .before .n .given .1 in
+    let e = sym (c .before .before .before .asked .ensures) ∙ c .before .n2 .given .1 in
     let h = enter-in _ _ _ _ (omega arith) _ e in
     search needs
 
 in-loop-sequence-requires-2 : (t : ℕ) → in-loop-lts.Need-sequence-requires-2 (in-loop-calls t) (in-loop-at t) in-loop.Post
 in-loop-sequence-requires-2 t c κs =
-    let e = sym (c .before .before .before .before .before .before .before .asked .ensures) ∙ c .before .before .before .before .before .n .given .1 in
+    let e = sym (c .before .before .before .before .before .before .before .asked .ensures) ∙ c .before .before .before .before .before .n2 .given .1 in
     let h = enter-in _ _ _ _ (omega arith) _ e in
     let l = rw (c .before .after .given .1) at (c .before .before .before .in-loop .ensures) in
     let g = after-in _ _ _ _ (h .0) _ _ _ (omega arith) l in
@@ -89,7 +89,7 @@ in-loop-sequence-requires-2 t c κs =
 
 in-loop-add-requires-2 : (t : ℕ) → in-loop-lts.Need-add-requires-2 (in-loop-calls t) (in-loop-at t) in-loop.Post
 in-loop-add-requires-2 t c κs =
-    let e = sym (c .before .before .before .before .before .before .before .before .asked .ensures) ∙ c .before .before .before .before .before .before .n .given .1 in
+    let e = sym (c .before .before .before .before .before .before .before .before .asked .ensures) ∙ c .before .before .before .before .before .before .n2 .given .1 in
     let h = enter-in _ _ _ _ (omega arith) _ e in
     let l = rw (c .before .before .after .given .1) at (c .before .before .before .before .in-loop .ensures) in
     let g = after-in _ _ _ _ (h .0) _ _ _ (omega arith) l in
@@ -97,7 +97,7 @@ in-loop-add-requires-2 t c κs =
 
 in-loop-closed-requires-2 : (t : ℕ) → in-loop-lts.Need-closed-requires-2 (in-loop-calls t) (in-loop-at t) in-loop.Post
 in-loop-closed-requires-2 t c κs =
-    let e = sym (c .before .before .before .before .before .before .before .before .before .asked .ensures) ∙ c .before .before .before .before .before .before .before .n .given .1 in
+    let e = sym (c .before .before .before .before .before .before .before .before .before .asked .ensures) ∙ c .before .before .before .before .before .before .before .n2 .given .1 in
     let h = enter-in _ _ _ _ (omega arith) _ e in
     let l = rw (c .before .before .before .after .given .1) at (c .before .before .before .before .before .in-loop .ensures) in
     let g = after-in _ _ _ _ (h .0) _ _ _ (omega arith) l in
@@ -109,12 +109,12 @@ in-loop-closed-requires-3 t c κs = (omega arith, omega arith)
 
 in-loop-returns : (t : ℕ) → in-loop-lts.Need-returns (in-loop-calls t) (in-loop-at t) in-loop.Post
 in-loop-returns t c =
-    let e = sym (c .before .before .before .before .before .asked .ensures) ∙ c .before .before .before .enum-told .given .1 in
-    rw (c .closed .ensures) (looped _ _ _ _ (omega arith) _ _ (rw (c .before .add .ensures) (go _ _ _ _ (omega arith) _ e (c .before .before .sequence .ensures))))
+    let e = sym (c .before .before .before .before .before .before .asked .ensures) ∙ c .before .before .before .before .n .given .1 in
+    rw (c .closed .ensures) (looped _ _ _ _ (omega arith) _ _ (rw (c .before .add .ensures) (go _ _ _ _ (omega arith) _ _ e (c .before .before .sequence .ensures))))
 
 in-loop-returns-2 : (t : ℕ) → in-loop-lts.Need-returns-2 (in-loop-calls t) (in-loop-at t) in-loop.Post
 in-loop-returns-2 t c =
-    let e = sym (c .before .before .before .before .before .before .before .before .before .before .asked .ensures) ∙ c .before .before .before .before .before .before .before .before .n .given .1 in
+    let e = sym (c .before .before .before .before .before .before .before .before .before .before .asked .ensures) ∙ c .before .before .before .before .before .before .before .before .n2 .given .1 in
     let h = enter-in _ _ _ _ (omega arith) _ e in
     let l = rw (c .before .before .before .before .after .given .1) at (c .before .before .before .before .before .before .in-loop .ensures) in
     let g = after-in _ _ _ _ (h .0) _ _ _ (omega arith) l in
@@ -122,17 +122,17 @@ in-loop-returns-2 t c =
 
 in-loop-returns-3 : (t : ℕ) → in-loop-lts.Need-returns-3 (in-loop-calls t) (in-loop-at t) in-loop.Post
 in-loop-returns-3 t c =
-    let e = sym (c .before .before .before .before .before .before .before .asked .ensures) ∙ c .before .before .before .before .before .n .given .1 in
+    let e = sym (c .before .before .before .before .before .before .before .asked .ensures) ∙ c .before .before .before .before .before .n2 .given .1 in
     looped-bad _ _ _ _ (omega arith) _ _ (enter-bad _ _ _ _ (omega arith) _ _ e (rw (c .before .k .given .1) at (c .before .before .before .in-loop .ensures)))
 
 in-loop-returns-4 : (t : ℕ) → in-loop-lts.Need-returns-4 (in-loop-calls t) (in-loop-at t) in-loop.Post
-in-loop-returns-4 t c = rw (c .closed3 .ensures) (looped _ _ _ _ (omega arith) _ _ (leave _ _ _ _ (omega arith) (sym (c .before .before .before .asked .ensures) ∙ c .before .enum-told2 .given .1)))
+in-loop-returns-4 t c = rw (c .closed3 .ensures) (looped _ _ _ _ (omega arith) _ _ (leave _ _ _ _ (omega arith) (sym (c .before .before .before .asked .ensures) ∙ c .before .enum-told .given .1)))
 
 in-loop-returns-5 : (t : ℕ) → in-loop-lts.Need-returns-5 (in-loop-calls t) (in-loop-at t) in-loop.Post
-in-loop-returns-5 t c = absurd (no-finish _ _ _ _ (omega arith) (sym (c .before .before .asked .ensures) ∙ c .enum-told3 .given .1) (omega arith))
+in-loop-returns-5 t c = absurd (no-finish _ _ _ _ (omega arith) (sym (c .before .before .asked .ensures) ∙ c .enum-told2 .given .1) (omega arith))
 
 in-loop-returns-6 : (t : ℕ) → in-loop-lts.Need-returns-6 (in-loop-calls t) (in-loop-at t) in-loop.Post
-in-loop-returns-6 t c = looped-bad _ _ _ _ (omega arith) _ _ (refuse _ _ _ _ (omega arith) (sym (c .before .before .asked .ensures) ∙ c .enum-told4 .given .1))
+in-loop-returns-6 t c = looped-bad _ _ _ _ (omega arith) _ _ (refuse _ _ _ _ (omega arith) (sym (c .before .before .asked .ensures) ∙ c .enum-told3 .given .1))
 
 -- the walk has come to record k: what is to come from there makes the whole
 abbrev sequence-Inv-loop : sequence-lts.InvT-loop
@@ -145,27 +145,33 @@ sequence-μ-loop f first count at depth k₀ steps₀ k steps = count - k
 sequence-loop-holds : (t : ℕ) → sequence-lts.Need-loop-holds (sequence-calls t) (sequence-at t) sequence.Post sequence-Inv-loop sequence-μ-loop
 sequence-loop-holds t c = ((omega arith, omega arith), (omega arith, ahead-none _ _ _ _))
 
+sequence-add-least : (t : ℕ) → sequence-lts.Need-add-least (sequence-calls t) (sequence-at t) sequence.Post sequence-Inv-loop sequence-μ-loop
+sequence-add-least t c =
+    let e = sym (c .before .before .before .asked .ensures) ∙ c .before .n .given .1 in
+    let h = go-in _ _ _ _ (omega arith) _ e in
+    omega arith
+
 sequence-loop-less : (t : ℕ) → sequence-lts.Need-loop-less (sequence-calls t) (sequence-at t) sequence.Post sequence-Inv-loop sequence-μ-loop
 sequence-loop-less t c = omega arith
 
 sequence-loop-again : (t : ℕ) → sequence-lts.Need-loop-again (sequence-calls t) (sequence-at t) sequence.Post sequence-Inv-loop sequence-μ-loop
 sequence-loop-again t c =
-    let e = sym (c .before .before .before .asked .ensures) ∙ c .before .enum-told .given .1 in
-    let h = go-in _ _ _ _ (omega arith) e in
-    ((omega arith, omega arith), (omega arith, rw (c .least .ensures) (ahead-go _ _ _ _ (omega arith) _ _ (c .before .before .before .before .before .loop .inv .1 .1) e)))
+    let e = sym (c .before .before .before .before .asked .ensures) ∙ c .before .before .n .given .1 in
+    let h = go-in _ _ _ _ (omega arith) _ e in
+    ((omega arith, omega arith), (omega arith, rw (c .least .ensures) (ahead-go _ _ _ _ (omega arith) _ _ (c .before .before .before .before .before .before .loop .inv .1 .1) _ e)))
 
 sequence-add-in-loop : (t : ℕ) → sequence-lts.Need-add-in-loop (sequence-calls t) (sequence-at t) sequence.Post sequence-Inv-loop sequence-μ-loop
 sequence-add-in-loop t c = omega arith
 
 sequence-in-loop-requires : (t : ℕ) → sequence-lts.Need-in-loop-requires (sequence-calls t) (sequence-at t) sequence.Post sequence-Inv-loop sequence-μ-loop
 sequence-in-loop-requires t c κs =
-    let e = sym (c .before .before .before .asked .ensures) ∙ c .before .n .given .1 in
+    let e = sym (c .before .before .before .asked .ensures) ∙ c .before .n2 .given .1 in
     let h = enter-in _ _ _ _ (omega arith) _ e in
     search needs
 
 sequence-add-least-2 : (t : ℕ) → sequence-lts.Need-add-least-2 (sequence-calls t) (sequence-at t) sequence.Post sequence-Inv-loop sequence-μ-loop
 sequence-add-least-2 t c =
-    let e = sym (c .before .before .before .before .before .before .before .asked .ensures) ∙ c .before .before .before .before .before .n .given .1 in
+    let e = sym (c .before .before .before .before .before .before .before .asked .ensures) ∙ c .before .before .before .before .before .n2 .given .1 in
     let h = enter-in _ _ _ _ (omega arith) _ e in
     let l = rw (c .before .after .given .1) at (c .before .before .before .in-loop .ensures) in
     let g = after-in _ _ _ _ (h .0) _ _ _ (omega arith) l in
@@ -173,7 +179,7 @@ sequence-add-least-2 t c =
 
 sequence-loop-less-2 : (t : ℕ) → sequence-lts.Need-loop-less-2 (sequence-calls t) (sequence-at t) sequence.Post sequence-Inv-loop sequence-μ-loop
 sequence-loop-less-2 t c =
-    let e = sym (c .before .before .before .before .before .before .before .before .asked .ensures) ∙ c .before .before .before .before .before .before .n .given .1 in
+    let e = sym (c .before .before .before .before .before .before .before .before .asked .ensures) ∙ c .before .before .before .before .before .before .n2 .given .1 in
     let h = enter-in _ _ _ _ (omega arith) _ e in
     let l = rw (c .before .before .after .given .1) at (c .before .before .before .before .in-loop .ensures) in
     let g = after-in _ _ _ _ (h .0) _ _ _ (omega arith) l in
@@ -181,7 +187,7 @@ sequence-loop-less-2 t c =
 
 sequence-loop-again-2 : (t : ℕ) → sequence-lts.Need-loop-again-2 (sequence-calls t) (sequence-at t) sequence.Post sequence-Inv-loop sequence-μ-loop
 sequence-loop-again-2 t c =
-    let e = sym (c .before .before .before .before .before .before .before .before .asked .ensures) ∙ c .before .before .before .before .before .before .n .given .1 in
+    let e = sym (c .before .before .before .before .before .before .before .before .asked .ensures) ∙ c .before .before .before .before .before .before .n2 .given .1 in
     let h = enter-in _ _ _ _ (omega arith) _ e in
     let l = rw (c .before .before .after .given .1) at (c .before .before .before .before .in-loop .ensures) in
     let g = after-in _ _ _ _ (h .0) _ _ _ (omega arith) l in
@@ -189,22 +195,22 @@ sequence-loop-again-2 t c =
 
 sequence-returns : (t : ℕ) → sequence-lts.Need-returns (sequence-calls t) (sequence-at t) sequence.Post sequence-Inv-loop sequence-μ-loop
 sequence-returns t c =
-    let e = sym (c .before .before .before .before .before .before .before .asked .ensures) ∙ c .before .before .before .before .before .n .given .1 in
+    let e = sym (c .before .before .before .before .before .before .before .asked .ensures) ∙ c .before .before .before .before .before .n2 .given .1 in
     ends-bad _ _ _ _ (omega arith) _ _ (c .before .before .before .before .before .before .before .before .before .loop .inv .1 .1) _ _ e (rw (c .before .b .given .1) at (c .before .before .before .in-loop .ensures))
 
 sequence-returns-2 : (t : ℕ) → sequence-lts.Need-returns-2 (sequence-calls t) (sequence-at t) sequence.Post sequence-Inv-loop sequence-μ-loop
 sequence-returns-2 t c =
-    let e = sym (c .before .before .asked .ensures) ∙ c .enum-told2 .given .1 in
+    let e = sym (c .before .before .asked .ensures) ∙ c .enum-told .given .1 in
     ends-leave _ _ _ _ (omega arith) _ _ (c .before .before .before .before .loop .inv .1 .1) (omega arith) e
 
 sequence-returns-3 : (t : ℕ) → sequence-lts.Need-returns-3 (sequence-calls t) (sequence-at t) sequence.Post sequence-Inv-loop sequence-μ-loop
 sequence-returns-3 t c =
-    let e = sym (c .before .before .before .asked .ensures) ∙ c .before .enum-told3 .given .1 in
+    let e = sym (c .before .before .before .asked .ensures) ∙ c .before .enum-told2 .given .1 in
     rw (c .least3 .ensures) (ends-finish _ _ _ _ (omega arith) _ _ (c .before .before .before .before .before .loop .inv .1 .1) e)
 
 sequence-returns-4 : (t : ℕ) → sequence-lts.Need-returns-4 (sequence-calls t) (sequence-at t) sequence.Post sequence-Inv-loop sequence-μ-loop
 sequence-returns-4 t c =
-    let e = sym (c .before .before .asked .ensures) ∙ c .enum-told4 .given .1 in
+    let e = sym (c .before .before .asked .ensures) ∙ c .enum-told3 .given .1 in
     ends-refuse _ _ _ _ (omega arith) _ _ (c .before .before .before .before .loop .inv .1 .1) e
 
 sequence-returns-5 : (t : ℕ) → sequence-lts.Need-returns-5 (sequence-calls t) (sequence-at t) sequence.Post sequence-Inv-loop sequence-μ-loop
@@ -243,7 +249,7 @@ pub +in-loop+sequence-spec : {M : Type 1} → statement M
     (λ c. search needs)
     (λ c κs. search needs)
     (λ c. search needs)
-    (λ c. search needs)
+    (sequence-add-least t)
     (λ c κs. search needs)
     (sequence-loop-less t)
     (sequence-loop-again t)

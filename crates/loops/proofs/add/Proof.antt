@@ -1,6 +1,6 @@
 use native.Mathlib.Omega.{arith}
 use mathlib.Core.Path.{ap}
-use Rattle.ec20.specs.Loops.{plus}
+use Rattle.ec20.specs.Walkers.{plus}
 use Rattle.ec20.specs.declared.Walked.the-variants.{Done}
 use Rattle.loops.specs.Capped.{capped}
 use Rattle.loops.specs.Walks.{Small}

@@ -1,7 +1,7 @@
 use borrow.Author.Tests.{eq-eqb, ne-eqb}
 use mathlib.Core.Path.{_≡_, ap, _∙_}
 use Rattle.ec20.specs.declared.Control.{Control}
-use Rattle.ec20.specs.Loops.{lastAct, midAct, actOf}
+use Rattle.ec20.specs.Walkers.{lastAct, midAct, actOf}
 use borrow.Author.Needs.{needs}
 use Rattle.loops.proofs.asked.Statement.{statement}
 use Rattle.loops.proofs.asked.Tie as tie

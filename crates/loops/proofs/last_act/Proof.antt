@@ -1,4 +1,4 @@
-use Rattle.ec20.specs.Loops.{lastAct}
+use Rattle.ec20.specs.Walkers.{lastAct}
 use borrow.Author.Tests.{eq-eqb, ne-eqb}
 use borrow.Author.Needs.{needs}
 use Rattle.loops.proofs.last_act.Statement.{statement}

@@ -1,4 +1,4 @@
-use Rattle.ec20.specs.Loops.{midAct}
+use Rattle.ec20.specs.Walkers.{midAct}
 use borrow.Author.Tests.{lt-ltb, le-ltb}
 use borrow.Author.Needs.{needs}
 use Rattle.loops.proofs.mid_act.Statement.{statement}

@@ -47,7 +47,7 @@ move-numbers-spec =
     μ-loop
     loop-holds
     (λ c. omega (arith, c .before .before .before .before .pre .0 .most))
-    (λ c. omega (arith, c .before .before .before .before .pre .0 .most, c .before .before .before .before .pre .0 .comment))
+    (λ c. omega (arith, c .before .before .before .before .pre .0 .most, c .before .before .before .before .pre .0 .near))
     move-record-requires
     (λ c. search needs)
     (λ c. search needs)

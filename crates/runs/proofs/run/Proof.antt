@@ -5,18 +5,18 @@ use lib.ListN.{length}
 use borrow.Author.Needs.{needs}
 use Rattle.ec20.specs.File.{recordsFrom}
 use Rattle.ec20.specs.Memory.{memory}
-use Rattle.ec20.specs.Step.{world}
+use Rattle.ec20.specs.Step.{openLoops, world}
 use Rattle.runs.proofs.Going.{Going, going-start, going-on, going-ended, going-used}
 use Rattle.runs.proofs.run.Statement.{statement}
 use Rattle.runs.proofs.run.Tie as tie
 
 abbrev Inv-loop : tie.InvT-loop
-Inv-loop rows f first count nexts places e budget x y₀ m₀ sm₀ t₀ d₀ tv₀ left₀ back₀ s₀ k₀ y m sm t d tv left back s k =
-    Going (recordsFrom f first count) e budget (memory x y₀ m₀ sm₀ t₀ d₀ tv₀) (world (memory x y m sm t d tv) left back s) k
+Inv-loop rows f first count goes e budget x y₀ m₀ sm₀ t₀ d₀ tv₀ left₀ back₀ s₀ k₀ y m sm t d tv left back s k =
+    Going (recordsFrom f first count) e budget (memory x y₀ m₀ sm₀ t₀ d₀ tv₀) (world (memory x y m sm t d tv) (openLoops left back) s) k
     × (length y ≡ length y₀) × (length m ≡ length m₀) × (length sm ≡ length sm₀) × (length t ≡ length t₀) × (length d ≡ length d₀) × (length tv ≡ length tv₀)
 
 abbrev μ-loop : tie.MeasureT-loop
-μ-loop rows f first count nexts places e budget x y₀ m₀ sm₀ t₀ d₀ tv₀ left₀ back₀ s₀ k₀ y m sm t d tv left back s k =
+μ-loop rows f first count goes e budget x y₀ m₀ sm₀ t₀ d₀ tv₀ left₀ back₀ s₀ k₀ y m sm t d tv left back s k =
     budget - k
 
 loop-holds : tie.Need-loop-holds Inv-loop μ-loop
@@ -29,7 +29,7 @@ add-ended : tie.Need-add-ended Inv-loop μ-loop
 add-ended c = record { fits = omega (arith, c .before .before .loop-test .taken, c .before .before .before .before .before .before .before .before .before .before .before .fits .budget .fits) }
 
 returns : tie.Need-returns Inv-loop μ-loop
-returns c = going-ended _ _ _ _ _ _ _ _ _ (c .before .before .before .before .loop .inv .0) (c .before .before .before .loop-test .taken) (sym (c .before .before .at-end .ensures) ∙ c .before .if1 .taken) (c .ended .ensures)
+returns c = going-ended _ _ _ _ _ _ _ _ (c .before .before .before .before .loop .inv .0) (c .before .before .before .loop-test .taken) (sym (c .before .before .at-end .ensures) ∙ c .before .if1 .taken) (c .ended .ensures)
 
 step-requires : tie.Need-step-requires Inv-loop μ-loop
 step-requires c κs = (c .before .before .before .before .before .before .before .before .before .before .before .before .before .before .before .before .before .before .before .pre, (c .before .before .before .before .before .before .before .before .before .before .before .loop .inv .0 .sane .room, omega (arith, c .before .before .before .before .before .before .before .before .before .before .before .loop .inv .0 .sane .due, c .before .before .before .before .before .before .before .before .before .before .before .before .before .before .before .before .before .before .before .pre .held .most)))
@@ -44,7 +44,7 @@ loop-again : tie.Need-loop-again Inv-loop μ-loop
 loop-again c = (going-on _ _ _ _ _ _ _ (c .before .before .before .before .before .before .before .before .before .before .before .before .before .before .before .before .before .before .before .before .before .before .loop .inv .0) (c .before .before .before .before .before .before .before .before .before .before .before .before .before .before .before .before .before .before .before .before .before .loop-test .taken) (sym (c .before .before .before .before .before .before .before .before .before .before .before .before .before .before .before .before .before .before .before .before .at-end .ensures) ∙ c .before .before .before .before .before .before .before .before .before .before .before .before .before .before .before .before .before .before .before .if1 .left) (c .before .before .before .before .before .before .before .before .before .before .step .ensures), search needs, search needs, search needs, search needs, search needs, search needs)
 
 returns-2 : tie.Need-returns-2 Inv-loop μ-loop
-returns-2 c = going-used _ _ _ _ _ _ _ _ _ (c .before .before .loop .inv .0) (c .before .loop-test .left) (c .answer .ensures)
+returns-2 c = going-used _ _ _ _ _ _ _ _ (c .before .before .loop .inv .0) (c .before .loop-test .left) (c .answer .ensures)
 
 pub run-spec : {M : Type 1} → statement M
 run-spec =

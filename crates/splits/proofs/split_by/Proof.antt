@@ -15,7 +15,7 @@ use Rattle.splits.proofs.split_by.Tie as tie
 abbrev Inv-loop : tie.InvT-loop
 Inv-loop rows f first count start n k₀ k =
     (k ≤ count)
-    × (firstAt (λ (j : ℕ). recordHas (partly (block start n)) (recordFrom f (first + 20 * j))) count 0 ≡ firstAt (λ (j : ℕ). recordHas (partly (block start n)) (recordFrom f (first + 20 * j))) (count - k) k)
+    × (firstAt (λ (j : ℕ). recordHas (partly (block start n)) (recordFrom f (first + 20 * j))) 0 count ≡ firstAt (λ (j : ℕ). recordHas (partly (block start n)) (recordFrom f (first + 20 * j))) k (count - k))
 
 abbrev μ-loop : tie.MeasureT-loop
 μ-loop rows f first count start n k₀ k = count - k

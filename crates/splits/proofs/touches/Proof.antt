@@ -6,7 +6,7 @@ use Rattle.splits.proofs.touches.Tie as tie
 
 returns : tie.Need-returns
 unfolding touches
-returns c = rw (c .meets .ensures, c .before .wide .ensures .0) refl
+returns c = rw (c .meets .ensures, c .before .length .ensures .0, c .before .before .start .ensures .0, c .before .before .before .in-d .ensures) refl
 
 pub touches-spec : {M : Type 1} → statement M
-touches-spec = tie.close (tie.spec (λ c κs. search needs) (λ c κs. search needs) returns)
+touches-spec = tie.close (tie.spec (λ c κs. search needs) (λ c κs. search needs) (λ c κs. search needs) (λ c κs. search needs) returns)

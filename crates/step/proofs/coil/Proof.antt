@@ -7,7 +7,7 @@ use Rattle.step.proofs.coil.Statement.{statement}
 use Rattle.step.proofs.coil.Tie as tie
 
 returns : tie.Need-returns
-returns c = λ x b t l k d v. both-parts l k (rw (← c .before .before .before .before .before .before .before .before .is-on .ensures) (c .before .before .before .before .before .coil .ensures x b t d v)) (c .act .ensures)
+returns c = λ x b t d v u. both-parts u (rw (← c .before .before .before .before .before .before .before .before .is-on .ensures) (c .before .before .before .before .before .coil .ensures x b t d v)) (c .act .ensures)
 
 pub coil-spec : {M : Type 1} → statement M
 coil-spec =

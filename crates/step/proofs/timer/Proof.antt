@@ -4,7 +4,7 @@ use Rattle.step.proofs.timer.Statement.{statement}
 use Rattle.step.proofs.timer.Tie as tie
 
 returns : tie.Need-returns
-returns c = λ x y m b l k d. both-parts l k (rw (← c .before .before .before .before .before .before .before .is-on .ensures) (c .before .before .before .before .timer .ensures x y m b d)) (c .act .ensures)
+returns c = λ x y m b d o. both-parts o (rw (← c .before .before .before .before .before .before .before .is-on .ensures) (c .before .before .before .before .timer .ensures x y m b d)) (c .act .ensures)
 
 pub timer-spec : {M : Type 1} → statement M
 timer-spec =

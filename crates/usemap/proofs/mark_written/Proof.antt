@@ -1,4 +1,4 @@
-use Rattle.ec20.specs.Table.{isWritten}
+use Rattle.ec20.specs.Roles.{isWritten}
 use Rattle.usemap.proofs.Laws.{widen-uses}
 use borrow.Author.Needs.{needs}
 use Rattle.usemap.proofs.mark_written.Statement.{statement}
