@@ -7,6 +7,7 @@ use Rattle.ec20.specs.declared.Walked.the-variants.{Done}
 use Rattle.ec20.specs.Control.{Controls, firstLabel}
 use Rattle.ec20.specs.Walkers.{walkOf}
 use Rattle.ec20.specs.Labels.{Stands}
+use Rattle.ec20.specs.Loops.{mostSteps}
 
 -- a program of `count` records and W steps
 pub record Right (code : Controls) (count w : ℕ) : Type 0 where
@@ -17,4 +18,4 @@ pub record Right (code : Controls) (count w : ℕ) : Type 0 where
   -- no label is set twice
   pub once : (k l : ℕ) → k < count → code k ≡ Marks l → firstLabel code count l ≡ At k
   -- W is 10,000,000 at most
-  pub few : w ≤ 10000000
+  pub few : w ≤ mostSteps

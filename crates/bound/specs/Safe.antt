@@ -10,6 +10,7 @@ use Rattle.ec20.specs.declared.Found.the-variants.{At}
 use Rattle.ec20.specs.Devices.{deepest}
 use Rattle.ec20.specs.Code.{Program}
 use Rattle.ec20.specs.Control.{Controls, controlOf, controlsOf, marks, nextOfFor}
+use Rattle.ec20.specs.Flow.{notYet, reached}
 use Rattle.ec20.specs.Labels.{opensOf, Stands}
 use Rattle.ec20.specs.Step.{World}
 
@@ -46,7 +47,7 @@ forsOf (suc d) back = (getD back d 0 - 1) ∷ forsOf d back
 -- The machine runs, the record due is one of the program's, at most 8 loops are open, each table of loops has 8 entries, and the loops
 -- open are those in which the record due stands.
 pub record Safe (p : Program) (w : World) : Type 0 where
-  pub running : w .st .ended ≡ 0
+  pub running : w .st .ended ≡ notYet
   pub inside : w .st .pc < p .count
   pub room : w .st .depth ≤ deepest
   pub passes : length (w .loops .left) ≡ deepest
@@ -56,6 +57,6 @@ pub record Safe (p : Program) (w : World) : Type 0 where
 
 -- END was executed: it is the last record, and no loop is open
 pub record AtEnd (p : Program) (w : World) : Type 0 where
-  pub ended : w .st .ended ≡ 1
+  pub ended : w .st .ended ≡ reached
   pub last : w .st .pc + 1 ≡ p .count
   pub closed : w .st .depth ≡ 0

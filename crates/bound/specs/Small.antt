@@ -22,7 +22,7 @@ pub record Frame : Type 0 where
 abbrev pub frame : ℕ → ℕ → Frame
 frame x h = record { left = x; back = h }
 
--- the record due; the open loops, the innermost first; mark: 0 running, 1 ended, 2 broken
+-- the record due; the open loops, the innermost first; mark: END is not reached yet (0) or is reached (1), as the machine has it, or it broke (2)
 pub record State : Type 0 where
   pub pc : ℕ
   pub loops : List Frame
@@ -31,7 +31,7 @@ pub record State : Type 0 where
 abbrev pub state : ℕ → List Frame → ℕ → State
 state p l m = record { pc = p; loops = l; mark = m }
 
--- "[A scan] starts at record 0"
+-- a scan "starts at record 0"
 abbrev pub start : State
 start = state 0 [] 0
 

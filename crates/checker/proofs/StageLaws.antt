@@ -12,7 +12,7 @@ use Rattle.ec20.specs.Check.{judgeProgram, judgeFile, verdictOf, checkFor, chec
 use Rattle.ec20.specs.Code.{Program, programIn, programOf}
 use Rattle.ec20.specs.Control.{Controls, controlsOf}
 use Rattle.ec20.specs.Devices.{ec20}
-use Rattle.ec20.specs.File.{Records, recordsFrom, recordsOf, framed, frameOf, firstOf, countOf}
+use Rattle.ec20.specs.File.{Records, recordsFrom, recordsOf, framed, frameOf}
 use Rattle.ec20.specs.Labels.{firstUnlabelled}
 use Rattle.ec20.specs.Loops.{firstUnsound, tooLong}
 use Rattle.ec20.specs.Walkers.{walked, unsound, stepsWalked}

@@ -9,7 +9,6 @@ use Rattle.ec20.specs.File.{Records}
 use Rattle.ec20.specs.Labels.{firstUnlabelled}
 use Rattle.ec20.specs.Loops.{firstUnsound, tooLong}
 use Rattle.ec20.specs.Operands.{firstBad}
-use Rattle.ec20.specs.Rung.{firstBroken}
 use Rattle.ec20.specs.declared.Judged.{Judged}
 use Rattle.ec20.specs.declared.Judged.the-variants.{Fine, Fault}
 use Rattle.ec20.specs.declared.Verdict.{Verdict}

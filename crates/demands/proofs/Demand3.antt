@@ -8,23 +8,23 @@ use native.Mathlib.Omega.{arith}
 use lib.Dec.{leb, ltb}
 use lib.IntN.{ℤ, pos, negℤ}
 use lib.ListN.{length, set, replicate, List·getD-eq-default}
-use lib.Seq.{ext-getD}
 use borrow.Author.Tests.{leb-true, ltb-true}
 use Rattle.ec20.proofs.Computing.{computing}
+use Rattle.ec20.proofs.Exchanges.{exchange-length, exchanged-back}
 use Rattle.ec20.proofs.Files.{K, SM, D, r0, r1, r2, r3, file, blank}
 use Rattle.ec20.proofs.MovedLaws.{moved-length, moved-at, comment-kept, trailer-kept}
 use Rattle.ec20.proofs.Tests.{both}
 use Rattle.ec20.specs.declared.Moved.the-variants.{To}
 use Rattle.ec20.specs.Devices.{Device, ec20, within}
-use Rattle.ec20.specs.Exchange.{swapped}
+use Rattle.ec20.specs.Exchange.{swapped, exchangeBy}
 use Rattle.ec20.specs.File.{byteAt, firstOf, countOf}
 use Rattle.ec20.specs.Memory.{Memory, withD}
 use Rattle.ec20.specs.Move.{Block, block, Pool, pool, Move, move, moveFor, movedByte, movedFile}
 use Rattle.ec20.specs.Registers.{wordAt}
 use Rattle.ec20.specs.Scan.{Scan}
-use Rattle.moving.specs.Rename.{Swap, exchangeBy}
+use Rattle.moving.specs.Rename.{Swap}
 use Rattle.moving.specs.Series.{Input, series}
-use Rattle.moving.proofs.Exchange.{length-exchangeBy, at-exchange, read}
+use Rattle.moving.proofs.Exchange.{read}
 use Rattle.moving.proofs.Series.{series-sim}
 use Rattle.moved.proofs.Example.{bytes-below}
 use Rattle.moved.proofs.Moved.{moved-for}
@@ -73,13 +73,7 @@ module _ (b : Block) (q : ℕ) where
     elsewhere i h k = ap (wordAt d′) (sym (others-stay i h k)) ∙ read σ d here i
 
     pub twice-same : exchangeBy σ d′ ≡ d
-    twice-same =
-        let one : length d′ ≡ length d = length-exchangeBy σ d in
-        let two : length (exchangeBy σ d′) ≡ length d = length-exchangeBy σ d′ ∙ one in
-        ext-getD (pos 0) _ _ two (λ j l. at-exchange σ d′ j (omega (arith, one, two, l)) ∙ back j (omega (arith, two, l)))
-      where
-        back : (j : ℕ) → j < length d → wordAt d′ (σ j) ≡ wordAt d j
-        back j l = read σ d here j
+    twice-same = exchanged-back σ d (here .twice) (here .stays)
 
 -- ---- the moved file, outside its records
 
@@ -110,7 +104,7 @@ module _ (v : Device) (small : v .words ≤ 2 ^ 32) (f : List ℕ) (byte : OfByt
         exchanges = λ d h.
             record {
               done = m .exchange d h;
-              size = length-exchangeBy (swapped b q) d ∙ h;
+              size = exchange-length (swapped b q) d ∙ h;
               to-place = in-place b q (v .words) (m .swap) d h;
               to-block = in-block b q (v .words) (m .swap) d h;
               others = elsewhere b q (v .words) (m .swap) d h;
@@ -169,7 +163,7 @@ unfolding computing series three
 old-quotients = refl
 
 pub new-quotients : map (read-at 207) (series ec20 (sample 202) (withExchange ten 202 three) twice) ≡ negℤ (pos 32203) ∷ negℤ (pos 32203) ∷ []
-unfolding computing series three exchangeBy
+unfolding computing series three
 new-quotients = refl
 
 pub quotients-same : series ec20 (sample 202) (withExchange ten 202 three) twice ≡ map (scanExchanged ten 202) (series ec20 (sample 100) three twice)

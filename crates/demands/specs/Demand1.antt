@@ -72,7 +72,7 @@ pub record ScanNumbers (v : Device) (f : List ℕ) (e b : ℕ) (c : Memory) : Ty
   pub no-other : (m k : ℕ) → scanFor v f e b c .answer ≡ NotScanned m k → (1 ≤ m) × (m ≤ 9)
   pub unchanged : (m k : ℕ) → scanFor v f e b c .answer ≡ NotScanned m k → scanFor v f e b c .mem ≡ c
 
--- The use map of f, which lends nothing: refused, it has "number and record only, every other field 0".
+-- The use map of f, to which no memory is lent: refused, it has "number and record only, every other field 0".
 pub record MapNumbers (v : Device) (f : List ℕ) : Type 0 where
   pub refused : (m k : ℕ) → checkFor v f ≡ Refused m k
       → mapFor v f ≡ record { number = m; at = k; read = replicate (v .words / 8) 0; written = replicate (v .words / 8) 0 }
@@ -126,8 +126,8 @@ pub record Demand1 : Type 0 where
   pub units : (s : List ℕ) → OneAnswer (unitsOf s)
   -- "and every scan ends"
   pub ends : (f : List ℕ) (e b : ℕ) (c : Memory) → Ends b (scanOf f e b c .answer)
-  -- "Bad input is refused by the numbers 1 to 14 of document 01, in its order, each exactly when its line holds; a refusal changes no lent
-  -- byte or word"
+  -- "Bad input is refused by the numbers 1 to 14 of document 01 (and those that document 02 adds), in their order, each exactly when its line
+  -- holds; a refusal changes no lent byte or word"
   pub check-numbers : (f : List ℕ) → CheckNumbers ec20 f
   pub scan-numbers : (f : List ℕ) (e b : ℕ) (c : Memory) → ScanNumbers ec20 f e b c
   pub map-numbers : (f : List ℕ) → MapNumbers ec20 f

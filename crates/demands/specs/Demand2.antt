@@ -44,7 +44,7 @@ pub record Scans (v : Device) (f : List ℕ) (n w : ℕ) : Type 0 where
   pub unmarked : (e b : ℕ) (c : Memory) (i : ℕ) → i < 8 * (v .words / 8) → bitAt (mapFor v f .written) i ≡ 0
       → wordAt (scanFor v f e b c .mem .d) i ≡ wordAt (c .d) i
 
--- THE DEMAND, of a file f that the EC20 accepts with n records and W = w.
+-- THE DEMAND, of a file f that the EC20 accepts with n records and W = w: the theorem is `checkOf f ≡ Accepted n w → Demand2 f n w`.
 pub record Demand2 (f : List ℕ) (n w : ℕ) : Type 0 where
   pub scans : Scans ec20 f n w
   -- "changed by no scan and no request": over any series of scans and requests

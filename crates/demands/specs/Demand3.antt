@@ -13,13 +13,13 @@ use Rattle.ec20.specs.declared.Moved.the-variants.{To, Refused}
 use Rattle.ec20.specs.Check.{checkFor}
 use Rattle.ec20.specs.Code.{programOf}
 use Rattle.ec20.specs.Devices.{Device}
-use Rattle.ec20.specs.Exchange.{swapped, exchangeFor}
+use Rattle.ec20.specs.Exchange.{swapped, exchanged, exchangeFor}
 use Rattle.ec20.specs.File.{byteAt, firstOf, countOf}
 use Rattle.ec20.specs.Memory.{Memory, withD}
 use Rattle.ec20.specs.Move.{Block, Pool, move, moveFor, movedFile}
 use Rattle.ec20.specs.Registers.{wordAt}
 use Rattle.ec20.specs.Scan.{Scan, scan}
-use Rattle.moving.specs.Rename.{renameProgram, exchangeBy}
+use Rattle.moving.specs.Rename.{renameProgram}
 use Rattle.moving.specs.Series.{Input, series}
 use Rattle.demands.specs.Lines.{In, InBlock, Lowest, Line14, Asked}
 
@@ -27,13 +27,9 @@ use Rattle.demands.specs.Lines.{In, InBlock, Lowest, Line14, Asked}
 abbrev pub OfBytes : List ℕ → Type 0
 OfBytes f = (i : ℕ) → byteAt f i < 256
 
--- the D table with the words of the block b and of the place at q exchanged
-abbrev pub exchange : Block → ℕ → List ℤ → List ℤ
-exchange b q d = exchangeBy (swapped b q) d
-
--- the memory with these words exchanged, and all else as it is; an answer with its memory so
+-- the memory with the words of the block b and of the place at q exchanged, and all else as it is; an answer with its memory so
 abbrev pub withExchange : Block → ℕ → Memory → Memory
-withExchange b q c = withD c (exchange b q (c .d))
+withExchange b q c = withD c (exchanged b q (c .d))
 
 abbrev pub scanExchanged : Block → ℕ → Scan → Scan
 scanExchanged b q s = scan (s .answer) (withExchange b q (s .mem))
@@ -41,13 +37,13 @@ scanExchanged b q s = scan (s .answer) (withExchange b q (s .mem))
 -- "Exchange the two ranges in the D table": what that is, word by word, in a table d of as many words as the device has
 pub record Exchanges (v : Device) (b : Block) (q : ℕ) (d : List ℤ) : Type 0 where
   -- the call does it
-  pub done : exchangeFor v d b q ≡ record { answer = Done; words = exchange b q d }
-  pub size : length (exchange b q d) ≡ v .words
-  pub to-place : (j : ℕ) → j < b .length → wordAt (exchange b q d) (q + j) ≡ wordAt d (b .start + j)
-  pub to-block : (j : ℕ) → j < b .length → wordAt (exchange b q d) (b .start + j) ≡ wordAt d (q + j)
-  pub others : (i : ℕ) → (InBlock b i → ⊥) → (In q (b .length) i → ⊥) → wordAt (exchange b q d) i ≡ wordAt d i
+  pub done : exchangeFor v d b q ≡ record { answer = Done; words = exchanged b q d }
+  pub size : length (exchanged b q d) ≡ v .words
+  pub to-place : (j : ℕ) → j < b .length → wordAt (exchanged b q d) (q + j) ≡ wordAt d (b .start + j)
+  pub to-block : (j : ℕ) → j < b .length → wordAt (exchanged b q d) (b .start + j) ≡ wordAt d (q + j)
+  pub others : (i : ℕ) → (InBlock b i → ⊥) → (In q (b .length) i → ⊥) → wordAt (exchanged b q d) i ≡ wordAt d i
   -- and done again it is undone
-  pub twice : exchange b q (exchange b q d) ≡ d
+  pub twice : exchanged b q (exchanged b q d) ≡ d
 
 -- the file f, whose block b the mover of the device put at q, and the file g that it left
 pub record Same (v : Device) (f : List ℕ) (b : Block) (q : ℕ) (g : List ℕ) : Type 0 where
@@ -65,7 +61,7 @@ pub record Same (v : Device) (f : List ℕ) (b : Block) (q : ℕ) (g : List ℕ)
   -- exchanged": the inputs are given alike to both
   pub scans : (c : Memory) (is : List Input) → series v g (withExchange b q c) is ≡ map (scanExchanged b q) (series v f c is)
 
--- THE DEMAND, of every file of bytes f, block b and pool l, on a device v.
+-- THE DEMAND, of every file of bytes f, block b and pool l, on a device v: the theorem is `OfBytes f → Demand3 ec20 f b l`.
 pub record Demand3 (v : Device) (f : List ℕ) (b : Block) (l : Pool) : Type 0 where
   -- "The mover picks the lowest right place"
   pub picks : (q : ℕ) → (moveFor v f b l .answer ≡ To q) ↔ (Asked v f b l × Lowest v f b l q)

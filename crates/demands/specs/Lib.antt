@@ -1,5 +1,5 @@
 -- The three demands, each as a statement over the definitions of crates/ec20/specs.
--- Words of D and the lines 9 to 14 of the table of refusals
+-- Words of D and the lines 9 to 14 of the table of refusals, and those of a request
 pub mod Lines
 -- Steps of a scan, counted out
 pub mod Steps

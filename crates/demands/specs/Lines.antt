@@ -1,4 +1,4 @@
--- "Numbers of refusal", 9 to 14, line by line, of a device. The lines 1 to 8 are in the crate refusals.
+-- "Numbers of refusal", 9 to 14, and 9 and 16 of a request, line by line, of a device. The lines 1 to 8 are in the crate refusals.
 use Prim.Native.Nat.{ℕ, _+_, _-_, _/_, _≤_, _<_}
 use mathlib.Core.Bool.{true}
 use mathlib.Core.List.{List}

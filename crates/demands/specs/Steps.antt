@@ -7,6 +7,7 @@ use Rattle.ec20.specs.declared.Scanned.{Scanned}
 use Rattle.ec20.specs.declared.Scanned.the-variants.{Ended, Watchdog}
 use Rattle.ec20.specs.Code.{Program}
 use Rattle.ec20.specs.Devices.{Device}
+use Rattle.ec20.specs.Flow.{notYet, reached}
 use Rattle.ec20.specs.Memory.{Memory}
 use Rattle.ec20.specs.Step.{World, stepOf}
 use Rattle.ec20.specs.Scan.{Scan, startWorld}
@@ -22,14 +23,14 @@ reportOf k s = record { steps = k; stop = s .pc; error = s .error; at = s .at }
 
 -- the answer after k steps of a budget of b: ended, if END was executed; watchdog, if the budget is used and a record is due
 pub data Answer (b k : ℕ) (s : Machine) : Scanned → Type 0 where
-  ended : s .ended ≡ 1 → Answer b k s (Ended (reportOf k s))
-  watchdog : s .ended ≡ 0 → k ≡ b → Answer b k s (Watchdog (reportOf k s))
+  ended : s .ended ≡ reached → Answer b k s (Ended (reportOf k s))
+  watchdog : s .ended ≡ notYet → k ≡ b → Answer b k s (Watchdog (reportOf k s))
 
 -- The scan s is a run of so many steps of the definition: none is made after END, none beyond the budget b, and answer and memory are as
 -- "after exactly those steps".
 pub record Counted (v : Device) (p : Program) (e b : ℕ) (c : Memory) (s : Scan) : Type 0 where
   pub steps : ℕ
   pub in-budget : steps ≤ b
-  pub before : (j : ℕ) → j < steps → afterSteps v p e c j .st .ended ≡ 0
+  pub before : (j : ℕ) → j < steps → afterSteps v p e c j .st .ended ≡ notYet
   pub answer : Answer b steps (afterSteps v p e c steps .st) (s .answer)
   pub memory : s .mem ≡ afterSteps v p e c steps .mem

@@ -10,7 +10,9 @@ use Rattle.ec20.specs.declared.Instr.the-variants.{Nop, Contact, Compare, Join,
 use Rattle.ec20.specs.declared.Machine.{Machine}
 use Rattle.ec20.specs.declared.Rung.{Rung}
 use Rattle.ec20.specs.Code.{Program}
-use Rattle.ec20.specs.Flow.{startsNow}
+use Rattle.ec20.specs.Devices.{stackHolds}
+use Rattle.ec20.specs.Flow.{absent, stackRoom, startsNow}
+use Rattle.ec20.specs.Mnemonics.{MPS}
 use Rattle.ec20.specs.Rung.{isLoad}
 use Rattle.ec20.specs.Step.{World}
 use Rattle.bound.specs.Safe.{Safe}
@@ -18,7 +20,7 @@ use Rattle.refusals.specs.Rung.{rungAt}
 
 -- flow is not absent
 abbrev pub Present : Machine → Type 0
-Present s = s .flow ≡ 0 → ⊥
+Present s = s .flow ≡ absent → ⊥
 
 pub record Empty (s : Machine) : Type 0 where
   pub blocks : s .blocks ≡ 0
@@ -26,13 +28,13 @@ pub record Empty (s : Machine) : Type 0 where
 
 -- a stack of n entries, 8 at most, is a byte of n bits: none was lost, and none stands above them
 pub record Holds (n byte : ℕ) : Type 0 where
-  pub few : n ≤ 8
+  pub few : n ≤ stackHolds
   pub bits : byte < 2 ^ n
 
--- an LD-type starts a rung with both stacks empty; or it pushes, and what is on the block stack leaves room, so that nothing falls out
+-- an LD-type starts a rung with both stacks empty; or it pushes, and the block stack has room, so that nothing falls out
 pub record Loads (s : Machine) : Type 0 where
   pub starting : startsNow s ≡ true → Empty s
-  pub pushing : startsNow s ≡ false → s .blocks < 128
+  pub pushing : startsNow s ≡ false → s .blocks < stackRoom
 
 -- an action has flow, and the block stack is empty
 pub record Acts (s : Machine) : Type 0 where
@@ -47,7 +49,7 @@ Needs g s (Compare n a b) = Loads s
 -- ANB and ORB pop an entry that is there
 Needs g s (Join n) = Present s × (0 < g .blocks)
 -- MPS has room, MRD and MPP an entry
-Needs g s (Branch n) = Acts s × (eqb n 9 ≡ true → s .branches < 128) × (eqb n 9 ≡ false → 0 < g .branches)
+Needs g s (Branch n) = Acts s × (eqb n MPS ≡ true → s .branches < stackRoom) × (eqb n MPS ≡ false → 0 < g .branches)
 Needs g s (Coil n o) = Acts s
 Needs g s (Timer i c) = Acts s
 Needs g s (For c) = Empty s

@@ -29,7 +29,7 @@ pub allowed-D : (v : Device) (p : Place) (g a : ℕ)
 unfolding allowed isUnused isBitRead isBitWritten isSource isTarget oneOf constantIn groupIn wordsIn inRange limitOf
 allowed-D v p g a = simp (and-false, or-false, and-of-or)
 
--- An operand has words in D exactly if it is of the kind D. This, and the laws below, are all that the theorems ask of `inD`, `startOf` and `extentOf`.
+-- An operand has words in D exactly if it is of the kind D. By this, and the laws below, the theorems know `inD`, `startOf` and `extentOf`.
 pub in-kind : (o : Operand) → inD o ≡ true → o .kind ≡ kindD
 unfolding inD
 in-kind o k = eqb-true _ _ k

@@ -1,4 +1,4 @@
--- "Bits packed eight to a byte, lowest number in the lowest bit", and groups of them. A bit is 0 or 1.
+-- Bits: "packed eight to a byte, lowest number in the lowest bit", and groups of them. A bit is 0 or 1.
 use Prim.Native.Nat.{ℕ, zero, suc, _+_, _*_, _/_, _%_, _^_}
 use mathlib.Core.List.{List}
 use lib.ListN.{getD, set}

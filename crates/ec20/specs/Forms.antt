@@ -1,5 +1,5 @@
--- The forms: which instruction (specs/Code.antt) a record makes, by the number that each has in the table. The last three are word instructions:
--- of two sources and a target, of a source and a target, of a target that is also read.
+-- The forms: which instruction (specs/Code.antt) a record makes, by numbers of our own, which the table's rows have. The last three are word
+-- instructions: of two sources and a target, of a source and a target, of a target that is also read.
 use Prim.Native.Nat.{ℕ}
 
 abbrev pub formNop : ℕ

@@ -1,12 +1,12 @@
 -- The EC20 machine, one module for each section of the scope. Read them in this order.
 -- What every section uses
 pub mod Basics
--- What the base holds: devices and WORK; numbers over the width; packed bits and groups
+-- What the base holds: devices and WORK; numbers over the width; packed bits and groups; D words and pairs
 pub mod Devices
 pub mod Numbers
 pub mod Bits
 pub mod Registers
--- Instructions: the table, with each operand's role, width and extent; what it is written in: mnemonics, roles, forms
+-- Instructions: their mnemonics; the table, with each operand's role, width and extent, and what it is written in: roles, forms
 pub mod Mnemonics
 pub mod Roles
 pub mod Forms

@@ -1,6 +1,6 @@
 -- The lent memory, and what an operand reads and writes of it. "Any content is valid."
 use Prim.Native.Nat.{ℕ, _+_, _/_, _%_}
-use mathlib.Core.Bool.{Bool, true, false, _&&_}
+use mathlib.Core.Bool.{Bool, _&&_}
 use mathlib.Core.List.{List}
 use lib.ListN.{length}
 use lib.Dec.{eqb}
@@ -26,7 +26,7 @@ pub record Memory : Type 0 where
 abbrev pub memory : List ℕ → List ℕ → List ℕ → List ℕ → List ℕ → List ℤ → List ℤ → Memory
 memory x y m sm t d tv = record { x = x; y = y; m = m; sm = sm; t = t; d = d; tv = tv }
 
--- "X 32 bytes, Y 32, M 250, SM 32, T contacts 32, 8,000 signed 16-bit D words and 256 signed 16-bit T values": of each kind as many as the
+-- "X 32 bytes, Y 32, M 250, SM 32, T contacts 32), 8,000 signed 16-bit D words and 256 signed 16-bit T values": of each kind as many as the
 -- device has, bits packed eight to a byte
 unfoldable pub sized : Device → Memory → Bool
 sized v c =

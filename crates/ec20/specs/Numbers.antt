@@ -7,7 +7,7 @@ use lib.IntN.{ℤ, pos, negsuc, negℤ, natAbs, subℕ}
 use lib.Signed.{ltZ, leZ}
 use Rattle.ec20.specs.Basics.{pick}
 
--- "16-bit", "32-bit": a width of w bits. There are these two; any number but 16 is taken for 32.
+-- "16-bit", "32-bit": a width of w bits. Word instructions have these two; any number but 16 is taken for 32.
 abbrev pub bitsIn : ℕ → ℕ
 bitsIn w = pick (eqb w 16) 16 32
 

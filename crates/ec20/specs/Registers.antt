@@ -26,9 +26,10 @@ lowWord v = signed (2 ^ 15) (low (2 ^ 32) v % 2 ^ 16)
 unfoldable pub withPair : List ℤ → ℕ → ℤ → List ℤ
 withPair d i v = set (set d i (highWord v)) (i + 1) (lowWord v)
 
--- the number in D at i, of w bits: a word at 16, a pair at 32. What is stored is a number of w bits.
+-- the number in D at i, of w bits: a word at 16, a pair at 32
 unfoldable pub numberAt : ℕ → List ℤ → ℕ → ℤ
 numberAt w d i = pick (eqb w 16) (wordAt d i) (pairAt d i)
 
+-- the table with z, a number of w bits, there
 unfoldable pub withNumber : ℕ → List ℤ → ℕ → ℤ → List ℤ
 withNumber w d i z = pick (eqb w 16) (set d i z) (withPair d i z)

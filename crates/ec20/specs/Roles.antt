@@ -8,7 +8,7 @@ use Rattle.ec20.specs.declared.Place.{Place}
 abbrev pub place : ℕ → ℕ → ℕ → Place
 place r w e = record { role = r; width = w; extent = e }
 
--- The roles, by the number that each has in the table
+-- The roles, by numbers of our own, which the table's places have
 abbrev pub roleUnused : ℕ
 roleUnused = 0
 

@@ -1,8 +1,8 @@
--- How the code finds 6, 7 and W: two walkers that call each other, and a search that goes by turns. What they find is what specs/Loops.antt and
+-- How the code finds 6, 7 and W: a walk, which the code makes by two walkers that call each other, and a search that goes by turns. What they find is what specs/Loops.antt and
 -- specs/Control.antt say (proofs/Walkers.antt): nothing here is needed to read the check.
 use Prim.Native.Nat.{ℕ, zero, suc, _+_, _-_, _*_}
-use mathlib.Core.Bool.{Bool, true, false}
-use lib.Dec.{ltb, leb, eqb}
+use mathlib.Core.Bool.{Bool}
+use lib.Dec.{ltb, eqb}
 use Rattle.ec20.specs.declared.Control.{Control}
 use Rattle.ec20.specs.declared.Control.the-variants.{Plain, Opens, Closes, Jumps, Marks, Ends}
 use Rattle.ec20.specs.declared.Act.{Act}

@@ -1,6 +1,6 @@
 -- The word instructions, as a function of values: what is stored, which flags, which error. h gives the width (specs/Numbers.antt).
 use Prim.Native.Nat.{ℕ, _*_}
-use mathlib.Core.Bool.{Bool, true, false, not, _||_}
+use mathlib.Core.Bool.{Bool, false, not, _||_}
 use mathlib.Core.List.{List}
 use lib.Dec.{eqb}
 use lib.IntN.{ℤ, pos, negℤ, natAbs, _+ℤ_, _-ℤ_, _*ℤ_}
@@ -32,8 +32,8 @@ flagged z zero above below =
 unfoldable pub sumOf : ℕ → ℤ → Outcome
 sumOf h z = flagged (wrap h z) (isZero z) (isAbove h z) (isBelow h z)
 
--- "Quotient rounded toward zero, remainder with the dividend's sign. Lowest number by -1: lowest number, remainder 0. Zero divisor:
--- error 1, not executed."
+-- "Quotient rounded toward zero, remainder with the dividend's sign (ours). Lowest number by -1: lowest number, remainder 0 (ours). Zero
+-- divisor: error 1, not executed."
 unfoldable pub divOf : ℕ → ℤ → ℤ → Outcome
 divOf h a b = pick (isZero b) (failure 1) (values (wrap h (quotZ a b)) (remZ a b))
 
@@ -52,6 +52,7 @@ vabsOf h a = pick (isLowest h a) (failure 2) (value (pos (natAbs a)))
 unfoldable pub negOf : ℕ → ℤ → Outcome
 negOf h a = pick (isLowest h a) (failure 2) (value (negℤ a))
 
+-- n is a or b
 abbrev pub is : ℕ → ℕ → ℕ → Bool
 is n a b = eqb n a || eqb n b
 

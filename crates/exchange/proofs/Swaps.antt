@@ -11,23 +11,11 @@ use lib.Seq.{ext-getD, getD-set-same, getD-set-other}
 use Rattle.blocks.proofs.Swapped.{Clear, clear}
 use Rattle.blocks.specs.Apart.{Apart}
 use Rattle.ec20.proofs.Ranges.{within-yes, within-no, within-more}
-use Rattle.ec20.proofs.MovedLaws.{getD-from, length-from}
+use Rattle.ec20.proofs.Exchanges.{exchange-length, exchange-at}
 use Rattle.ec20.specs.Devices.{ec20}
 use Rattle.ec20.specs.Exchange.{swapped, exchanged}
 use Rattle.ec20.specs.Move.{Block, block}
 use Rattle.ec20.specs.Registers.{wordAt}
-
--- the exchanged table, word by word
-module _ (b : Block) (q : ℕ) (d : List ℤ) where
-  pub exchanged-length : length (exchanged b q d) ≡ length d
-  unfolding exchanged
-  exchanged-length = length-from _ 0 (length d)
-
-  pub exchanged-at : (i : ℕ) → i < length d → wordAt (exchanged b q d) i ≡ wordAt d (swapped b q i)
-  unfolding exchanged
-  exchanged-at i h =
-      let e : 0 + i ≡ i = omega arith in
-      getD-from (λ (k : ℕ). wordAt d (swapped b q k)) 0 (length d) i (pos 0) h ∙ ap (λ (k : ℕ). wordAt d (swapped b q k)) e
 
 -- where a word goes: from the block, from the place, from elsewhere
 module _ (s n q i : ℕ) where
@@ -51,8 +39,8 @@ swapped-more s n q i h g = rw (within-more s n i h, within-more q n i g) refl
 -- nothing exchanged yet
 pub exchanged-none : (s q : ℕ) (d : List ℤ) → d ≡ exchanged (block s 0) q d
 exchanged-none s q d =
-    ext-getD (pos 0) d (exchanged (block s 0) q d) (sym (exchanged-length (block s 0) q d))
-    (λ i l. sym (exchanged-at (block s 0) q d i l ∙ ap (wordAt d) (from-elsewhere s 0 q i (λ h. omega arith) (λ h. omega arith))))
+    ext-getD (pos 0) d (exchanged (block s 0) q d) (sym (exchange-length (swapped (block s 0) q) d))
+    (λ i l. sym (exchange-at (swapped (block s 0) q) d i l ∙ ap (wordAt d) (from-elsewhere s 0 q i (λ h. omega arith) (λ h. omega arith))))
 
 -- the next word of block and place
 module _ (s n q : ℕ) (d : List ℤ) (w : Apart ec20 (block s n) q) (size : length d ≡ 8000) (j : ℕ) (h : j < n) where
@@ -69,21 +57,21 @@ module _ (s n q : ℕ) (d : List ℤ) (w : Apart ec20 (block s n) q) (size : len
   -- it is as it was
   at-block : wordAt E (s + j) ≡ wordAt d (s + j)
   at-block =
-      exchanged-at (block s j) q d (s + j) (omega (arith, w .block-in))
+      exchange-at (swapped (block s j) q) d (s + j) (omega (arith, w .block-in))
       ∙ ap (wordAt d) (from-elsewhere s j q (s + j) (λ _. omega arith) (λ k. elim side [ inl l ↦ omega arith | inr l ↦ omega arith ]))
 
   at-place : wordAt E (q + j) ≡ wordAt d (q + j)
   at-place =
-      exchanged-at (block s j) q d (q + j) (omega (arith, w .place-in))
+      exchange-at (swapped (block s j) q) d (q + j) (omega (arith, w .place-in))
       ∙ ap (wordAt d) (from-elsewhere s j q (q + j) (λ k. elim side [ inl l ↦ omega arith | inr l ↦ omega arith ]) (λ _. omega arith))
 
   length-F : length F ≡ length d
-  length-F = simp (length-set, exchanged-length)
+  length-F = simp (length-set, exchange-length)
 
   word-F : (i : ℕ) → i < length d → wordAt F i ≡ wordAt d (swapped (block s (j + 1)) q i)
   word-F i l =
-      let le : length (set E (s + j) (wordAt E (q + j))) ≡ length d = simp (length-set, exchanged-length) in
-      let lb : length E ≡ length d = exchanged-length (block s j) q d in
+      let le : length (set E (s + j) (wordAt E (q + j))) ≡ length d = simp (length-set, exchange-length) in
+      let lb : length E ≡ length d = exchange-length (swapped (block s j) q) d in
       elim (ℕ-discrete i (q + j)) [
         | yes e ↦
             rw e
@@ -103,15 +91,15 @@ module _ (s n q : ℕ) (d : List ℤ) (w : Apart ec20 (block s n) q) (size : len
                   (sym (from-block s (j + 1) q (s + j) (omega arith) (omega arith) ∙ let z : s + j - s + q ≡ q + j = omega arith in z)))
               | no f ↦
                   getD-set-other E (s + j) i (wordAt E (q + j)) (pos 0) f
-                  ∙ exchanged-at (block s j) q d i l
+                  ∙ exchange-at (swapped (block s j) q) d i l
                   ∙ ap (wordAt d) (sym (swapped-more s j q i f g))
             ]
       ]
 
   next : F ≡ exchanged (block s (j + 1)) q d
   next =
-      ext-getD (pos 0) F (exchanged (block s (j + 1)) q d) (length-F ∙ sym (exchanged-length (block s (j + 1)) q d))
-      (λ i l. let l′ : i < length d = subst (λ (k : ℕ). i < k) length-F l in word-F i l′ ∙ sym (exchanged-at (block s (j + 1)) q d i l′))
+      ext-getD (pos 0) F (exchanged (block s (j + 1)) q d) (length-F ∙ sym (exchange-length (swapped (block s (j + 1)) q) d))
+      (λ i l. let l′ : i < length d = subst (λ (k : ℕ). i < k) length-F l in word-F i l′ ∙ sym (exchange-at (swapped (block s (j + 1)) q) d i l′))
 
   -- the same, of tables that a call gives
   pub exchanged-more : {x y : List ℤ} → x ≡ E → y ≡ set (set x (s + j) (wordAt x (q + j))) (q + j) (wordAt x (s + j))

@@ -8,6 +8,7 @@ use lib.ListN.{length}
 use lib.Seq.{ext-getD}
 use Rattle.blocks.proofs.Swapped.{swap-twice, swap-stays}
 use Rattle.blocks.specs.Apart.{Apart}
+use Rattle.ec20.proofs.Exchanges.{exchange-length, exchanged-back}
 use Rattle.ec20.proofs.Tests.{one-answer}
 use Rattle.ec20.specs.Devices.{ec20}
 use Rattle.ec20.specs.Exchange.{Exchange, swapped, exchanged, sizeFault, judgeExchange, exchangeIf, exchangeFor, exchangeOf}
@@ -18,7 +19,6 @@ use Rattle.ec20.specs.declared.Exchanged.the-variants.{Done, Refused}
 use Rattle.ec20.specs.declared.Judged.{Judged}
 use Rattle.ec20.specs.declared.Judged.the-variants.{Fine, Fault}
 use Rattle.exchange.proofs.Cases.{told, is-apart}
-use Rattle.exchange.proofs.Swaps.{exchanged-length, exchanged-at}
 
 -- two results that meet the contract are equal: answer and table
 pub one-exchange : (d : List ℤ) (b : Block) (q : ℕ) {r s : Exchange} → r ≡ exchangeOf d b q → s ≡ exchangeOf d b q → r ≡ s
@@ -27,14 +27,7 @@ one-exchange d b q = one-answer
 -- a table exchanged twice is as it was
 pub exchanged-twice : (b : Block) (q : ℕ) (d : List ℤ) → Apart ec20 b q → length d ≡ 8000 → exchanged b q (exchanged b q d) ≡ d
 exchanged-twice b q d w size =
-    let n : length (exchanged b q (exchanged b q d)) ≡ length d = exchanged-length b q (exchanged b q d) ∙ exchanged-length b q d in
-    ext-getD (pos 0) (exchanged b q (exchanged b q d)) d n
-    (λ i l.
-    let k : i < length d = subst (λ (x : ℕ). i < x) n l in
-    let k′ : i < length (exchanged b q d) = rw (exchanged-length b q d) k in
-    exchanged-at b q (exchanged b q d) i k′
-    ∙ exchanged-at b q d (swapped b q i) (rw size (swap-stays ec20 b q w i (omega arith)))
-    ∙ ap (wordAt d) (swap-twice ec20 b q w i))
+    exchanged-back (swapped b q) d (swap-twice ec20 b q w) (subst (λ (n : ℕ). (i : ℕ) → i < n → swapped b q i < n) (sym size) (swap-stays ec20 b q w))
 
 -- a judgement asks of the table its length alone
 judge-same : (d e : List ℤ) (b : Block) (q : ℕ) → length d ≡ length e → judgeExchange ec20 d b q ≡ judgeExchange ec20 e b q
@@ -49,7 +42,7 @@ again : (d : List ℤ) (b : Block) (q : ℕ) (j : Judged) → j ≡ judgeExchang
     → exchangeIf (judgeExchange ec20 (exchangeIf j d b q .words) b q) (exchangeIf j d b q .words) b q ≡ told Done d
 again d b q (Fault m k) e h = apart-answers h
 again d b q Fine e h =
-    rw (judge-same (exchanged b q d) d b q (exchanged-length b q d), sym e) (let h = is-apart d b q e refl in ap (told Done) (exchanged-twice b q d (h .0) (h .1)))
+    rw (judge-same (exchanged b q d) d b q (exchange-length (swapped b q) d), sym e) (let h = is-apart d b q e refl in ap (told Done) (exchanged-twice b q d (h .0) (h .1)))
 
 pub exchange-twice : (d : List ℤ) (b : Block) (q : ℕ) → exchangeOf d b q .answer ≡ Done → exchangeOf (exchangeOf d b q .words) b q ≡ told Done d
 unfolding exchangeOf exchangeFor

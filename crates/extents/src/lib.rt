@@ -1,5 +1,5 @@
-// An operand's words in D: whether it names any, the first of them, and how many there are at its place. Whatever asks about an operand's extent
-// asks here.
+// An operand's words in D: whether it names any, the first of them, and how many there are at its place. WORK, map, block, place and move ask
+// here.
 ghost use Prim.Native.Nat.{_<_, _≤_};
 ghost use Rattle.ec20.specs.Operands.{inD, startOf, extentOf};
 ghost use mathlib.Core.Path.{_≡_};

@@ -1,7 +1,7 @@
 -- What a place allows, by its role: one test is left of them all.
 use Prim.Native.Nat.{ℕ, zero, suc}
 use mathlib.Core.Path.{_≡_, refl, sym, _∙_}
-use mathlib.Core.Bool.{Bool, true, false, _||_, or-false}
+use mathlib.Core.Bool.{Bool, false, _||_, or-false}
 use borrow.Author.Tests.{ne-eqb}
 use lib.IntN.{pos}
 use Rattle.ec20.specs.declared.Operand.{Operand}

@@ -3,8 +3,8 @@ use Prim.Native.Nat.{ℕ, zero, suc, _<_, _≤_}
 use mathlib.Core.Bool.{Bool, true, _&&_}
 use native.Mathlib.Omega.{arith}
 use native.Mathlib.Decide.{ℕ-discrete}
-use mathlib.Core.Path.{_≡_, refl, sym, ap, subst, _∙_}
-use mathlib.Core.List.{List, [], _∷_, map}
+use mathlib.Core.Path.{_≡_, sym, ap, _∙_}
+use mathlib.Core.List.{List, [], map}
 use lib.Dec.{eqb}
 use lib.ListN.{getD, List·getD-map, List·getD-eq-default}
 use Rattle.ec20.specs.Table.{table, rowOf, unknown}

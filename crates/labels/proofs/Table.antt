@@ -1,6 +1,6 @@
 -- The table of the labels' places, filled from the last record back; and the judgement that begins at the first record that may be refused.
 use Prim.Native.Nat.{ℕ, zero, suc, _+_, _-_, _<_, _≤_}
-use mathlib.Core.Bool.{Bool, true, false}
+use mathlib.Core.Bool.{false}
 use mathlib.Core.List.{List}
 use mathlib.Core.Path.{_≡_, refl, sym, subst, ap, _∙_}
 use native.Mathlib.Decide.{ℕ-discrete}
@@ -11,10 +11,7 @@ use lib.Dec.{eqb}
 use lib.ListN.{getD, length, set, replicate, length-set, length-replicate}
 use lib.Seq.{getD-set-same, getD-set-other, ext-getD}
 use Rattle.ec20.specs.Basics.{firstAt}
-use Rattle.ec20.specs.Control.{Controls, marks, firstLabel}
-use Rattle.ec20.specs.Labels.{labelFault}
-use Rattle.ec20.specs.declared.Control.{Control}
-use Rattle.ec20.specs.declared.Control.the-variants.{Marks}
+use Rattle.ec20.specs.Control.{Controls, marks}
 use Rattle.ec20.specs.declared.Found.{Found}
 use Rattle.ec20.specs.declared.Found.the-variants.{At, Nowhere}
 use Rattle.labels.proofs.Laws.{passes, fails, none}

@@ -1,8 +1,8 @@
 -- "A word is marked read exactly if some record's source extent holds it, written exactly if a target extent does." Assumes nothing.
-use Prim.Native.Nat.{ℕ, _+_, _*_, _/_, _<_, _≤_}
-use mathlib.Core.Bool.{Bool, true, false, _&&_}
+use Prim.Native.Nat.{ℕ, _+_, _*_, _/_, _<_}
+use mathlib.Core.Bool.{Bool, true, _&&_}
 use mathlib.Core.List.{List}
-use mathlib.Core.Path.{_≡_, refl, sym, ap, ap₂, _∙_}
+use mathlib.Core.Path.{_≡_, sym, ap₂, _∙_}
 use native.Mathlib.Omega.{arith}
 use Rattle.ec20.proofs.Ranges.{within-yes, is-within}
 use Rattle.ec20.proofs.Some.{some-at, at-some}

@@ -1,7 +1,7 @@
 -- The cap is above what 8 lets pass, so that a capped W tells the same.
 use mathlib.Core.Path.{_≡_, refl}
 use mathlib.Core.Logic.{dite}
-use Prim.Native.Nat.{ℕ, _≤_, min}
+use Prim.Native.Nat.{_≤_, min}
 use native.Mathlib.Decide.{decLe}
 use native.Mathlib.Nat.{min-eq-left}
 use native.Mathlib.Omega.{arith}

@@ -1,7 +1,7 @@
 -- The exchange of a D table between the block and the place that the mover took: it is granted, and reads through the same renaming.
 use Prim.Native.Nat.{ℕ}
 use mathlib.Core.List.{List}
-use mathlib.Core.Path.{_≡_, refl, ap, _∙_}
+use mathlib.Core.Path.{_≡_, ap}
 use lib.IntN.{ℤ}
 use lib.ListN.{length}
 use borrow.Author.Tests.{eq-eqb, le-leb}
@@ -13,17 +13,12 @@ use Rattle.ec20.specs.Exchange.{swapped, exchanged, sizeFault, placeFault, judg
 use Rattle.ec20.specs.Move.{Block, Pool}
 use Rattle.blocks.proofs.Swapped.{swap-twice, swap-stays}
 use Rattle.blocks.specs.Apart.{Apart}
-use Rattle.moving.specs.Rename.{Swap, exchangeBy}
+use Rattle.moving.specs.Rename.{Swap}
 use Rattle.moved.proofs.Taken.{Taken, block-fine, block-off-work, placed}
 
 -- the exchange renames the D numbers, and is its own inverse
 pub is-swap : (v : Device) (b : Block) (q : ℕ) → Apart v b q → Swap (swapped b q) (v .words)
 is-swap v b q two = record { twice = swap-twice v b q two; stays = swap-stays v b q two }
-
--- the exchanged table is the one whose word i is the word that i is renamed to
-pub exchanged-by : (b : Block) (q : ℕ) (d : List ℤ) → exchanged b q d ≡ exchangeBy (swapped b q) d
-unfolding exchanged exchangeBy
-exchanged-by b q d = refl
 
 module _ {v : Device} {f : List ℕ} {b : Block} {l : Pool} {q : ℕ} {g : List ℕ} (t : Taken v f b l q g) where
   place-fine : placeFault v b q ≡ Fine
@@ -34,8 +29,6 @@ module _ {v : Device} {f : List ℕ} {b : Block} {l : Pool} {q : ℕ} {g : List 
   unfolding judgeExchange sizeFault
   granted d e = rw (eq-eqb _ _ e, block-fine t, block-off-work t, place-fine)
 
-  pub exchange-done : (d : List ℤ) → length d ≡ v .words → exchangeFor v d b q ≡ record { answer = Done; words = exchangeBy (swapped b q) d }
+  pub exchange-done : (d : List ℤ) → length d ≡ v .words → exchangeFor v d b q ≡ record { answer = Done; words = exchanged b q d }
   unfolding exchangeFor
-  exchange-done d e =
-      ap (λ (j : Judged). exchangeIf j d b q) (granted d e)
-      ∙ ap (λ (m : List ℤ). record { answer = Done; words = m }) (exchanged-by b q d)
+  exchange-done d e = ap (λ (j : Judged). exchangeIf j d b q) (granted d e)

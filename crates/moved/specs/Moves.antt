@@ -8,9 +8,9 @@ use Rattle.ec20.specs.declared.Exchanged.the-variants.{Done}
 use Rattle.ec20.specs.Check.{checkFor}
 use Rattle.ec20.specs.Code.{programOf}
 use Rattle.ec20.specs.Devices.{Device}
-use Rattle.ec20.specs.Exchange.{swapped, exchangeFor}
+use Rattle.ec20.specs.Exchange.{swapped, exchanged, exchangeFor}
 use Rattle.ec20.specs.Move.{Block, movedFile}
-use Rattle.moving.specs.Rename.{Swap, Whole, exchangeBy, renameProgram}
+use Rattle.moving.specs.Rename.{Swap, Whole, renameProgram}
 
 -- The file g is the file f with its block moved to q:
 pub record Moves (v : Device) (f : List ℕ) (b : Block) (q : ℕ) (g : List ℕ) : Type 0 where
@@ -25,4 +25,4 @@ pub record Moves (v : Device) (f : List ℕ) (b : Block) (q : ℕ) (g : List ℕ
   -- and the renaming is one of D numbers, its own inverse
   pub swap : Swap (swapped b q) (v .words)
   -- the exchange of block and place is granted for every D table of the right size, and reads through that renaming
-  pub exchange : (d : List ℤ) → length d ≡ v .words → exchangeFor v d b q ≡ record { answer = Done; words = exchangeBy (swapped b q) d }
+  pub exchange : (d : List ℤ) → length d ≡ v .words → exchangeFor v d b q ≡ record { answer = Done; words = exchanged b q d }

@@ -1,4 +1,4 @@
--- The exchanged table: its length, its words, and a word written into it. Assumes of σ that it is a swap of the table's numbers.
+-- The exchanged table, read and written. Assumes of σ that it is a swap of the table's numbers.
 use Prim.Native.Nat.{ℕ, _+_, _≤_, _<_}
 use mathlib.Core.Path.{_≡_, sym, ap, subst, _∙_}
 use mathlib.Core.List.{List}
@@ -7,23 +7,12 @@ use native.Mathlib.Decide.{decLt, ℕ-discrete}
 use lib.ListN.{set, length, length-set, List·getD-eq-default}
 use lib.Seq.{ext-getD, getD-set-same, getD-set-other, set-out}
 use lib.IntN.{ℤ, pos}
+use Rattle.ec20.specs.Exchange.{exchangeBy}
 use Rattle.ec20.specs.Registers.{wordAt}
-use Rattle.ec20.proofs.MovedLaws.{getD-from, length-from}
-use Rattle.moving.specs.Rename.{Swap, exchangeBy}
-
--- the exchanged table is as long as the table
-pub length-exchangeBy : (σ : ℕ → ℕ) (d : List ℤ) → length (exchangeBy σ d) ≡ length d
-unfolding exchangeBy
-length-exchangeBy σ d = length-from _ 0 (length d)
+use Rattle.ec20.proofs.Exchanges.{exchange-length, exchange-at}
+use Rattle.moving.specs.Rename.{Swap}
 
 module _ (σ : ℕ → ℕ) where
-  -- word j of the exchanged table is word σ j of the table
-  pub at-exchange : (d : List ℤ) (j : ℕ) → j < length d → wordAt (exchangeBy σ d) j ≡ wordAt d (σ j)
-  unfolding exchangeBy
-  at-exchange d j h =
-      let e : 0 + j ≡ j = omega arith in
-      getD-from (λ k. wordAt d (σ k)) 0 (length d) j (pos 0) h ∙ ap (λ (k : ℕ). wordAt d (σ k)) e
-
   -- a number past the end stays past the end
   out-stays : (n : ℕ) → Swap σ n → (i : ℕ) → n ≤ i → n ≤ σ i
   out-stays n w i h =
@@ -34,13 +23,13 @@ module _ (σ : ℕ → ℕ) where
 
   module _ (d : List ℤ) (w : Swap σ (length d)) where
     past : (i : ℕ) → length d ≤ i → length (exchangeBy σ d) ≤ σ i
-    past i e = subst (λ (k : ℕ). k ≤ σ i) (sym (length-exchangeBy σ d)) (out-stays (length d) w i e)
+    past i e = subst (λ (k : ℕ). k ≤ σ i) (sym (exchange-length σ d)) (out-stays (length d) w i e)
 
     -- READ: word σ i of the exchanged table is word i of the table, for every i
     pub read : (i : ℕ) → wordAt (exchangeBy σ d) (σ i) ≡ wordAt d i
     read i =
         elim (decLt i (length d)) [
-          | yes h ↦ at-exchange d (σ i) (w .stays i h) ∙ ap (wordAt d) (w .twice i)
+          | yes h ↦ exchange-at σ d (σ i) (w .stays i h) ∙ ap (wordAt d) (w .twice i)
           | no h ↦
               let e : length d ≤ i = omega arith in
               List·getD-eq-default (exchangeBy σ d) (pos 0) (past i e) ∙ sym (List·getD-eq-default d (pos 0) e)
@@ -52,17 +41,17 @@ module _ (σ : ℕ → ℕ) where
     at-write i v h j l (yes e) =
         let e′ : σ j ≡ i = ap σ e ∙ w .twice i in
         let l′ : j < length (set d i v) = subst (λ (k : ℕ). j < k) (sym (length-set d i v)) l in
-        let l″ : j < length (exchangeBy σ d) = subst (λ (k : ℕ). j < k) (sym (length-exchangeBy σ d)) l in
-        at-exchange (set d i v) j l′
+        let l″ : j < length (exchangeBy σ d) = subst (λ (k : ℕ). j < k) (sym (exchange-length σ d)) l in
+        exchange-at σ (set d i v) j l′
         ∙ ap (wordAt (set d i v)) e′
         ∙ getD-set-same d i v (pos 0) h
         ∙ sym (getD-set-same (exchangeBy σ d) j v (pos 0) l″)
         ∙ ap (λ (k : ℕ). wordAt (set (exchangeBy σ d) k v) j) e
     at-write i v h j l (no n) =
         let l′ : j < length (set d i v) = subst (λ (k : ℕ). j < k) (sym (length-set d i v)) l in
-        at-exchange (set d i v) j l′
+        exchange-at σ (set d i v) j l′
         ∙ getD-set-other d i (σ j) v (pos 0) (λ q. n (sym (w .twice j) ∙ ap σ q))
-        ∙ sym (at-exchange d j l)
+        ∙ sym (exchange-at σ d j l)
         ∙ sym (getD-set-other (exchangeBy σ d) (σ i) j v (pos 0) n)
 
     -- WRITE: a word written and the table then exchanged is the table exchanged and the renamed word then written, for every i
@@ -70,8 +59,8 @@ module _ (σ : ℕ → ℕ) where
     write i v =
         elim (decLt i (length d)) [
           | yes h ↦
-              let e : length (exchangeBy σ (set d i v)) ≡ length d = length-exchangeBy σ (set d i v) ∙ length-set d i v in
-              ext-getD (pos 0) _ _ (e ∙ sym (length-exchangeBy σ d) ∙ sym (length-set (exchangeBy σ d) (σ i) v))
+              let e : length (exchangeBy σ (set d i v)) ≡ length d = exchange-length σ (set d i v) ∙ length-set d i v in
+              ext-getD (pos 0) _ _ (e ∙ sym (exchange-length σ d) ∙ sym (length-set (exchangeBy σ d) (σ i) v))
               (λ j l. at-write i v h j (subst (λ (k : ℕ). j < k) e l) (ℕ-discrete j (σ i)))
           | no h ↦
               let e : length d ≤ i = omega arith in

@@ -7,7 +7,8 @@ use Rattle.ec20.specs.declared.Operand.{Operand}
 use Rattle.ec20.specs.Operands.{startOf}
 use Rattle.ec20.specs.Registers.{numberAt}
 use Rattle.ec20.specs.Memory.{Memory, loadOf}
-use Rattle.moving.specs.Rename.{Swap, renameOperand, exchangeBy, exMemory, Along, wordsOf}
+use Rattle.ec20.specs.Exchange.{exchangeBy}
+use Rattle.moving.specs.Rename.{Swap, renameOperand, exMemory, Along, wordsOf}
 use Rattle.moving.proofs.Numbers.{number-read}
 use Rattle.moving.proofs.Operand.{in-or-not, rename-other, rename-in, rename-start, load-D, load-other}
 

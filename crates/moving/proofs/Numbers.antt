@@ -10,7 +10,8 @@ use lib.IntN.{ℤ}
 use Rattle.ec20.specs.Basics.{pick}
 use Rattle.ec20.specs.Registers.{wordAt, pairAt, withPair, highWord, lowWord, numberAt, withNumber}
 use Rattle.ec20.proofs.Tests.{picked}
-use Rattle.moving.specs.Rename.{Swap, exchangeBy, wordsOf}
+use Rattle.ec20.specs.Exchange.{exchangeBy}
+use Rattle.moving.specs.Rename.{Swap, wordsOf}
 use Rattle.moving.proofs.Exchange.{read, write}
 
 -- the e words from number i on go along

@@ -1,5 +1,5 @@
--- What an operand reads and writes of D, by its words there, and what becomes of them when it is renamed. The theorems of the move ask no more
--- of an operand in D than `inD` and `startOf`; here alone its kind and value are looked at. Assumes nothing.
+-- What an operand reads and writes of D, by its words there, and what becomes of them when it is renamed. The other proofs of
+-- this crate ask no more of an operand in D than `inD` and `startOf`; here its kind and value are looked at. Assumes nothing.
 use Prim.Native.Nat.{ℕ, _+_}
 use mathlib.Core.Bool.{Bool, true, false}
 use mathlib.Core.List.{List}

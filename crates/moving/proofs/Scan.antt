@@ -15,14 +15,14 @@ use Rattle.ec20.specs.Memory.{Memory, sized}
 use Rattle.ec20.specs.Scan.{fitting, scanIf, scanFor}
 use Rattle.ec20.proofs.Tests.{both}
 use Rattle.moving.specs.Rename.{Swap, renameProgram, exMemory, exScan, Whole}
-use Rattle.moving.proofs.Exchange.{length-exchangeBy}
+use Rattle.ec20.proofs.Exchanges.{exchange-length}
 use Rattle.moving.proofs.Operand.{pick-sim}
 use Rattle.moving.proofs.Run.{run-scan-sim}
 
 -- the exchange changes no size
 pub fitting-same : (σ : ℕ → ℕ) (v : Device) (e : ℕ) (c : Memory) → fitting v e (exMemory σ c) ≡ fitting v e c
 unfolding fitting sized
-fitting-same σ v e c = rw (length-exchangeBy σ (c .d))
+fitting-same σ v e c = rw (exchange-length σ (c .d))
 
 -- what is not refused by 9 has as many D words as the device
 pub fitting-words : (v : Device) (e : ℕ) (c : Memory) → fitting v e c ≡ true → length (c .d) ≡ v .words

@@ -16,7 +16,8 @@ use Rattle.ec20.specs.Registers.{withNumber}
 use Rattle.ec20.specs.Memory.{Memory, withD, storeOf, following}
 use Rattle.ec20.specs.Words.{storeAll}
 use Rattle.ec20.proofs.Tests.{picked}
-use Rattle.moving.specs.Rename.{Swap, renameOperand, exchangeBy, exMemory, Along, wordsOf}
+use Rattle.ec20.specs.Exchange.{exchangeBy}
+use Rattle.moving.specs.Rename.{Swap, renameOperand, exMemory, Along, wordsOf}
 use Rattle.moving.proofs.Numbers.{length-number, number-write}
 use Rattle.moving.proofs.Operand.{pick-sim, in-or-not, rename-other, rename-in, rename-start, store-D, store-other, store-kept}
 use Rattle.moving.proofs.Operand.{follow-in, follow-start, follow-D, follow-other}

@@ -2,25 +2,22 @@
 use Prim.Native.Nat.{ℕ, _+_, _*_, _/_, _<_}
 use mathlib.Core.Bool.{true}
 use mathlib.Core.Path.{_≡_}
-use mathlib.Core.List.{List}
-use lib.ListN.{length}
-use lib.IntN.{ℤ}
 use Rattle.ec20.specs.declared.Operand.{Operand}
 use Rattle.ec20.specs.declared.Rec.{Rec}
 use Rattle.ec20.specs.declared.Instr.{Instr}
 use Rattle.ec20.specs.declared.Instr.the-variants.{Nop, Contact, Compare, Join, Branch, Coil, Timer, For, Next, Jump, Label, End, Word}
-use Rattle.ec20.specs.Basics.{pick, list}
+use Rattle.ec20.specs.Basics.{pick}
 use Rattle.ec20.specs.Numbers.{bitsIn}
-use Rattle.ec20.specs.Registers.{wordAt}
 use Rattle.ec20.specs.Operands.{inD, startOf}
 use Rattle.ec20.specs.Code.{Program}
+use Rattle.ec20.specs.Exchange.{exchangeBy}
 use Rattle.ec20.specs.Memory.{Memory, withD}
 use Rattle.ec20.specs.Mnemonics.{DIV, DDIV}
 use Rattle.ec20.specs.Words.{is}
 use Rattle.ec20.specs.Step.{World, world, widthOf}
 use Rattle.ec20.specs.Scan.{Scan, scan}
 
--- a renaming of the numbers below n, and of no other, that is its own inverse
+-- a renaming that is its own inverse, and keeps the numbers below n below n
 pub record Swap (σ : ℕ → ℕ) (n : ℕ) : Type 0 where
   pub twice : (i : ℕ) → σ (σ i) ≡ i
   pub stays : (i : ℕ) → i < n → σ i < n
@@ -51,10 +48,6 @@ renameInstr σ (Word n a b t) = Word n (renameOperand σ a) (renameOperand σ b)
 
 abbrev pub renameProgram : (ℕ → ℕ) → Program → Program
 renameProgram σ p = record { edition = p .edition; count = p .count; code = λ k. renameInstr σ (p .code k) }
-
--- the table whose word i is word σ i of d
-unfoldable pub exchangeBy : (ℕ → ℕ) → List ℤ → List ℤ
-exchangeBy σ d = list (length d) (λ i. wordAt d (σ i))
 
 -- the memory with its D table exchanged, and all else as it is
 abbrev pub exMemory : (ℕ → ℕ) → Memory → Memory

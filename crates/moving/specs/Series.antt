@@ -19,7 +19,8 @@ withX c l = memory l (c .y) (c .m) (c .sm) (c .t) (c .d) (c .tv)
 abbrev pub scanWith : Device → List ℕ → Memory → Input → Scan
 scanWith v f c i = scanFor v f (i .elapsed) (i .budget) (withX c (i .x))
 
--- The scans of the file, in order, from the memory c on: each on the memory that the one before it left. A refused scan leaves it as it was.
+-- The scans of the file, in order, from the memory c on: each on the memory that the one before it left, with its own X.
+-- A refused scan leaves what it was given.
 unfoldable pub series : Device → List ℕ → Memory → List Input → List Scan
 series v f c [] = []
 series v f c (i ∷ rest) =

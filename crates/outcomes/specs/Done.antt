@@ -9,6 +9,7 @@ use Rattle.ec20.specs.Basics.{pick}
 use Rattle.ec20.specs.Code.{noOperand}
 use Rattle.ec20.specs.File.{operandAt}
 use Rattle.ec20.specs.Memory.{Memory}
+use Rattle.ec20.specs.Mnemonics.{DIV, DDIV}
 use Rattle.ec20.specs.Numbers.{half}
 use Rattle.ec20.specs.Step.{widthOf, outcomeOf}
 use Rattle.ec20.specs.Table.{rowOf}
@@ -26,7 +27,7 @@ pub record WordAt (w n i : ℕ) (f : List ℕ) : Type 0 where
 
 -- number n is DIV or DDIV, and h is one more than the largest number of w bits
 pub record Divides (n w h : ℕ) : Type 0 where
-  pub number : (n ≡ 35) ⊎ (n ≡ 52)
+  pub number : (n ≡ DIV) ⊎ (n ≡ DDIV)
   pub by : h ≡ half w
 
 -- the second source of the record at byte i: none, but where the table has two

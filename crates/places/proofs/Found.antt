@@ -7,7 +7,7 @@ use native.Mathlib.Decide.{ℕ-discrete}
 use native.Mathlib.Omega.{arith}
 use lib.Dec.{ltb}
 use Rattle.ec20.proofs.Tests.{is-false}
-use Rattle.ec20.specs.Basics.{pick, firstAt}
+use Rattle.ec20.specs.Basics.{firstAt}
 use Rattle.ec20.specs.Devices.{Device, within}
 use Rattle.ec20.specs.File.{Records}
 use Rattle.ec20.specs.Move.{Block, Pool, isPlace, placeOf}

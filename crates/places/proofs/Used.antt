@@ -1,6 +1,6 @@
 -- A word in use and an operand that meets words: some record holds one of the words exactly if some operand's extent meets them. Assumes nothing.
 use Prim.Native.Nat.{ℕ, _+_, _≤_, _<_}
-use mathlib.Core.Bool.{Bool, true, false, _&&_, _||_}
+use mathlib.Core.Bool.{Bool, true, _&&_, _||_}
 use mathlib.Core.Path.{_≡_, ap₂}
 use native.Mathlib.Omega.{arith}
 use Rattle.ec20.proofs.Ranges.{within-yes, is-within, meets-yes, common}

@@ -1,7 +1,7 @@
 -- What the trailer's test says of the frame. Assumes nothing.
 use mathlib.Core.Bool.{Bool, true, false, _&&_}
 use mathlib.Core.List.{List}
-use mathlib.Core.Path.{_≡_, refl, sym, ap, _∙_}
+use mathlib.Core.Path.{_≡_, sym, _∙_}
 use Prim.Native.Nat.{ℕ, _+_, _*_, _-_, _<_, _≤_}
 use native.Mathlib.Omega.{arith}
 use lib.Dec.{eqb, leb}
@@ -9,8 +9,7 @@ use lib.ListN.{length}
 use borrow.Author.Tests.{leb-true, eqb-true, le-leb, lt-leb}
 use Rattle.ec20.proofs.Tests.{both}
 use Rattle.ec20.specs.Basics.{pick}
-use Rattle.ec20.specs.File.{u16At, u32At, editionOf, countOf, distanceOf, firstOf, framed, frameOf}
-use Rattle.ec20.specs.declared.Frame.{Frame}
+use Rattle.ec20.specs.File.{editionOf, countOf, distanceOf, firstOf, framed, frameOf}
 use Rattle.ec20.specs.declared.Frame.the-variants.{Whole, Broken}
 use Rattle.records.specs.Ranges.{Held}
 

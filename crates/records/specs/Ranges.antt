@@ -1,7 +1,6 @@
 -- The ranges of what is read from a file: a byte is below 256, a number of four bytes below 2 ^ 32; and what a whole frame means for the
 -- file's length.
 use Prim.Native.Nat.{ℕ, _+_, _*_, _<_, _≤_, _^_}
-use mathlib.Core.Path.{_≡_}
 use Rattle.ec20.specs.declared.Operand.{Operand}
 use Rattle.ec20.specs.declared.Rec.{Rec}
 use Rattle.ec20.specs.declared.Frame.{Frame}

@@ -1,4 +1,4 @@
--- "Record told: first": the lowest record of which a line holds.
+-- "Record told" is "first": the lowest record of which a line holds.
 use Prim.Native.Nat.{ℕ, _<_}
 
 -- of `count` records, k is the first of which the line holds

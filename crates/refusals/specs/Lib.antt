@@ -1,4 +1,4 @@
--- "Numbers of refusal", 1 to 8, line by line. Read Table first: it is the whole table.
+-- "Numbers of refusal", 1 to 8, line by line, and the whole table.
 -- The record told: the first of which a line holds
 pub mod First
 -- The lines: 1; 2, 3 and 4; 5; 6; 7; 8

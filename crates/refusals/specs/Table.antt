@@ -21,7 +21,7 @@ use Rattle.refusals.specs.Steps.{Line8}
 abbrev pub recordAt : List ℕ → ℕ → Rec
 recordAt f k = recordsOf f .at k
 
--- no line before the one in question holds: not 1; no record breaks 2, 3 or 4; none 5; none 6; none 7
+-- no line before the one in question holds: not 1; no record breaks 2, 3 or 4; none 5; none 6; none 7; and where it is accepted, not 8
 abbrev pub Not1 : List ℕ → Type 0
 Not1 f = Line1 f → ⊥
 

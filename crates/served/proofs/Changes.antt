@@ -1,19 +1,17 @@
 -- What writes change, coil by coil and register by register. Assumes nothing.
 use Prim.Native.Nat.{ℕ, zero, suc, _+_, _*_, _≤_, _<_}
-use mathlib.Core.Bool.{Bool, true, false, not, _&&_, _||_}
+use mathlib.Core.Bool.{true, false, not, _&&_}
 use mathlib.Core.List.{List}
-use mathlib.Core.Logic.{_≢_}
-use mathlib.Core.Path.{_≡_, refl, sym, ap, subst, _∙_}
+use mathlib.Core.Path.{_≡_, refl, sym, ap, _∙_}
 use native.Mathlib.Decide.{ℕ-discrete}
 use native.Mathlib.Omega.{arith}
 use lib.Dec.{ltb, leb, eqb}
 use lib.IntN.{ℤ, pos}
-use lib.ListN.{length, getD, set, length-set}
+use lib.ListN.{length, set}
 use lib.Seq.{getD-set-same, getD-set-other}
-use borrow.Author.Tests.{leb-true, ltb-false, lt-ltb, eqb-true, eq-eqb, not-true, not-false}
+use borrow.Author.Tests.{lt-ltb, eqb-true, not-true}
 use Rattle.bits.proofs.Laws.{bit-range, bit-back, bit-other}
 use Rattle.ec20.proofs.Tests.{differ, both, picked}
-use Rattle.ec20.specs.Basics.{pick, one-if}
 use Rattle.ec20.specs.Bits.{bitAt, withBit}
 use Rattle.ec20.specs.Devices.{ec20, meets, meetsWork}
 use Rattle.ec20.specs.Registers.{wordAt}

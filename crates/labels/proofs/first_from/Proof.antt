@@ -5,7 +5,7 @@ use Rattle.ec20.specs.Basics.{firstAt, refusedAt}
 use Rattle.ec20.specs.Code.{programIn}
 use Rattle.ec20.specs.Control.{controlsOf}
 use Rattle.ec20.specs.File.{recordsFrom}
-use Rattle.ec20.specs.Labels.{labelFault, firstUnlabelled}
+use Rattle.ec20.specs.Labels.{labelFault}
 use Rattle.labels.proofs.Laws.{passes, fails, none}
 use Rattle.labels.proofs.first_from.Statement.{statement}
 use Rattle.labels.proofs.first_from.Tie as tie

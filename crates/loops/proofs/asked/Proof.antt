@@ -1,5 +1,5 @@
 use borrow.Author.Tests.{eq-eqb, ne-eqb}
-use mathlib.Core.Path.{_≡_, ap, _∙_}
+use mathlib.Core.Path.{ap, _∙_}
 use Rattle.ec20.specs.declared.Control.{Control}
 use Rattle.ec20.specs.Walkers.{lastAct, midAct, actOf}
 use borrow.Author.Needs.{needs}

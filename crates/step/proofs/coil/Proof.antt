@@ -1,7 +1,4 @@
 use Rattle.step.proofs.ExecLaws.{both-parts}
-use Rattle.ec20.specs.Flow.{coilOf}
-use Rattle.ec20.specs.Step.{world}
-use mathlib.Core.Path.{_≡_, ap, ap₂, _∙_}
 use borrow.Author.Needs.{needs}
 use Rattle.step.proofs.coil.Statement.{statement}
 use Rattle.step.proofs.coil.Tie as tie
