@@ -1,7 +1,8 @@
 // Bits packed eight to a byte, the lowest number in the lowest bit, and groups of them, by shifts and masks. A bit outside the table reads
 // as 0, and a store there changes nothing, so that no function here asks its bits to be in the table.
+ghost use mathlib.Core.List.{List};
 ghost use mathlib.Core.Path.{_≡_};
-ghost use Prim.Native.Nat.{_+_, _<_, _≤_, _^_};
+ghost use Prim.Native.Nat.{ℕ, _+_, _<_, _≤_, _^_};
 ghost use lib.Signed.{mag};
 ghost use Rattle.ec20.specs.Numbers.{bitsIn, half, low};
 ghost use Rattle.ec20.specs.Bits.{bitAt, byteWith, withBit, packed, spread, groupSize, groupAt, withGroup};
@@ -52,15 +53,28 @@ pub fn gather(bits: &[u8], first: usize, size: usize) -> u64
     v
 }
 
-// The low bits of v in the size bits from number first on, the lowest first.
+// Bit i of v in bit number first + i of the table, after the bits below it.
+fn spread_bit(bits: &mut [u8], first: usize, i: usize, v: u64)
+    requires { ⌜ (i < 32) × (first < 2 ^ 63) ⌝ }
+    ensures { λ _. ⌜ ((b : List ℕ) → now (bits .entry) ≡ spread b first i v → now (bits .exit) ≡ spread b first (i + 1) v) ⌝ }
+{
+    put_bit(bits, first + i, ((v >> i) & 1) as usize);
+}
+
+// The low bits of v in the size bits from number first on, the lowest first. They go two at a time: one at a time it is so short that it is
+// inlined wherever a word instruction stores, and the store of a D word, beside it, is then not (docs/BENCHMARKS.md).
 pub fn scatter(bits: &mut [u8], first: usize, size: usize, v: u64)
     requires { ⌜ (size ≤ 32) × (first < 2 ^ 63) ⌝ }
     ensures { λ _. ⌜ now (bits .exit) ≡ spread (now (bits .entry)) first size v ⌝ }
 {
     let mut i: usize = 0;
-    while i < size {
-        put_bit(bits, first + i, ((v >> i) & 1) as usize);
-        i += 1;
+    while i + 1 < size {
+        spread_bit(bits, first, i, v);
+        spread_bit(bits, first, i + 1, v);
+        i += 2;
+    }
+    if i < size {
+        spread_bit(bits, first, i, v);
     }
 }
 

@@ -1,5 +1,5 @@
--- How the code finds 6, 7 and W: a walk, which the code makes by two walkers that call each other, and a search that goes by turns. What they find is what specs/Loops.antt and
--- specs/Control.antt say (proofs/Walkers.antt): nothing here is needed to read the check.
+-- How the code finds 6, 7 and W: a walk, which the code makes by two walkers that call each other, and a search that goes by turns. What they
+-- find is what specs/Loops.antt and specs/Control.antt say (proofs/Walkers.antt): nothing here is needed to read the check.
 use Prim.Native.Nat.{ℕ, zero, suc, _+_, _-_, _*_}
 use mathlib.Core.Bool.{Bool}
 use lib.Dec.{ltb, eqb}

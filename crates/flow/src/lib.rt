@@ -70,10 +70,17 @@ pub fn act(s: Machine) -> Machine
     requires { ⌜ s .pc < 2 ^ 63 ⌝ }
     ensures { λ r. ⌜ r ≡ acted s ⌝ }
 {
-    let mut r = s;
-    r.pc = s.pc + 1;
-    r.action = 1;
-    r
+    Machine {
+        pc: s.pc + 1,
+        flow: s.flow,
+        action: 1,
+        blocks: s.blocks,
+        branches: s.branches,
+        depth: s.depth,
+        ended: s.ended,
+        error: s.error,
+        at: s.at,
+    }
 }
 
 // After an action that ended in error: the first error is kept, with its record.

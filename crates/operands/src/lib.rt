@@ -1,7 +1,7 @@
 // Operands over the lent memory: what each reads and writes of it. A program touches memory only here: bits of X, Y, M, SM and T contacts,
 // D words and T values. Each contract is one equation over the whole memory, whatever the tables are that a function does not hold.
-// Groups and T values, which are rare, stand in `other` and `store_group`, each called from two places, so that they are not inlined and
-// what calls them is.
+// Groups and T values, which are rare, stand in `other` and `store_group`. Each is called from two places and is too long to be inlined, so
+// that what calls it is short enough to be.
 use ec20::Operand;
 use ec20::Outcome;
 ghost use mathlib.Core.Path.{_≡_};

@@ -37,34 +37,35 @@ module _ (rs : Records) (e : ℕ) where
   unfolding runOf
   run-used j k w z = rw z refl
 
-  run-more : (n k : ℕ) (w v : World) → k < n → w .st .ended ≡ 0 → v ≡ stepOf (programIn rs) e w → runOf (programIn rs) e (n - (k + 1)) (k + 1) v ≡ runOf (programIn rs) e (n - k) k w
+  run-more : (j i k m : ℕ) (w v : World) → j ≡ suc i → m ≡ k + 1 → w .st .ended ≡ 0 → v ≡ stepOf (programIn rs) e w → runOf (programIn rs) e i m v ≡ runOf (programIn rs) e j k w
   unfolding runOf
-  run-more n k w v h z g = let s : n - k ≡ suc (n - (k + 1)) = omega arith in rw (s, g, eq-eqb _ _ z) refl
+  run-more j i k m w v s t z g = rw (s, t, g, eq-eqb _ _ z) refl
 
-  -- k steps of a run of budget n, none of them END, led from the memory c₀ to the world w
-  pub record Going (n : ℕ) (c₀ : Memory) (w : World) (k : ℕ) : Type 0 where
-    pub within : k ≤ n
+  -- all but j steps of a run of budget n, none of them END, led from the memory c₀ to the world w
+  pub record Going (n : ℕ) (c₀ : Memory) (w : World) (j : ℕ) : Type 0 where
+    pub within : j ≤ n
     pub goes : w .st .ended ≡ 0
     pub sane : Sane (programIn rs) w
-    pub same : runOf (programIn rs) e (n - k) k w ≡ runOf (programIn rs) e n 0 (world c₀ (openLoops (replicate 8 0) (replicate 8 0)) startState)
+    pub same : runOf (programIn rs) e j (n - j) w ≡ runOf (programIn rs) e n 0 (world c₀ (openLoops (replicate 8 0) (replicate 8 0)) startState)
 
   module _ (n : ℕ) (c₀ : Memory) where
-    pub going-start : {s : Machine} {k : ℕ} → s ≡ startState → k ≡ 0 → Going n c₀ (world c₀ (openLoops (replicate 8 0) (replicate 8 0)) s) k
-    going-start g z =
-        rw (g, z) (record {
+    pub going-start : {s : Machine} → s ≡ startState → Going n c₀ (world c₀ (openLoops (replicate 8 0) (replicate 8 0)) s) n
+    going-start g =
+        rw g (record {
           within = omega arith;
           goes = refl;
           sane = sane-start (programIn rs) c₀;
-          same = let f : n - 0 ≡ n = omega arith in rw f refl;
+          same = let f : n - n ≡ 0 = omega arith in rw f refl;
         })
 
-    pub going-on : (w v : World) (k : ℕ) → Going n c₀ w k → k < n → ends (controlOf (codeOf rs (w .st .pc))) ≡ false → v ≡ stepOf (programIn rs) e w → Going n c₀ v (k + 1)
-    going-on w v k g h z f =
+    pub going-on : (w v : World) (j : ℕ) → Going n c₀ w j → 0 < j → ends (controlOf (codeOf rs (w .st .pc))) ≡ false → v ≡ stepOf (programIn rs) e w → Going n c₀ v (j - 1)
+    going-on w v j g h z f =
+        let l : j ≤ n = g .within in
         record {
           within = omega arith;
           goes = ap (λ (u : World). u .st .ended) f ∙ step-keeps (programIn rs) e w z ∙ g .goes;
           sane = subst (Sane (programIn rs)) (sym f) (sane-step (programIn rs) (end-past rs) e w (g .sane));
-          same = run-more n k w v h (g .goes) f ∙ g .same;
+          same = run-more j (j - 1) (n - j) (n - (j - 1)) w v (omega arith) (omega arith) (g .goes) f ∙ g .same;
         }
 
     -- a run of which j steps are left, and that makes none of them
@@ -74,16 +75,20 @@ module _ (rs : Records) (e : ℕ) where
     over c o s j k g f q = rw (← g, f, q) refl
 
     -- END is due, and is one step more
-    pub going-ended : (c : Memory) (o : Open) (s : Machine) (k : ℕ) {a : Scanned} → Going n c₀ (world c o s) k → k < n → ends (controlOf (codeOf rs (s .pc))) ≡ true → a ≡ answerOf (k + 1) (stopped s)
+    pub going-ended : (c : Memory) (o : Open) (s : Machine) (j : ℕ) {a : Scanned} → Going n c₀ (world c o s) j → 0 < j → ends (controlOf (codeOf rs (s .pc))) ≡ true → a ≡ answerOf (n - j + 1) (stopped s)
         → scan a c ≡ ranFrom (programIn rs) e n c₀
-    going-ended c o s k g h z q =
+    going-ended c o s j g h z q =
         let w : World = world c o s in
         let v : World = world c o (stopped s) in
-        let more : runOf (programIn rs) e (n - (k + 1)) (k + 1) v ≡ runOf (programIn rs) e (n - k) k w = run-more n k w v h (g .goes) (sym (step-ends (programIn rs) e w z)) in
-        over c o (stopped s) (n - (k + 1)) (k + 1) (more ∙ g .same) (run-done (n - (k + 1)) (k + 1) v (λ y. omega (arith, y))) q
+        let k : ℕ = n - j + 1 in
+        let more : runOf (programIn rs) e (j - 1) k v ≡ runOf (programIn rs) e j (n - j) w = run-more j (j - 1) (n - j) k w v (omega arith) refl (g .goes) (sym (step-ends (programIn rs) e w z)) in
+        over c o (stopped s) (j - 1) k (more ∙ g .same) (run-done (j - 1) k v (λ y. omega (arith, y))) q
 
-    pub going-used : (c : Memory) (o : Open) (s : Machine) (k : ℕ) {a : Scanned} → Going n c₀ (world c o s) k → n ≤ k → a ≡ answerOf k s → scan a c ≡ ranFrom (programIn rs) e n c₀
-    going-used c o s k g h q = over c o s (n - k) k (g .same) (run-used (n - k) k (world c o s) (omega arith)) q
+    -- all steps are made
+    pub going-used : (c : Memory) (o : Open) (s : Machine) (j : ℕ) {a : Scanned} → Going n c₀ (world c o s) j → j ≤ 0 → a ≡ answerOf n s → scan a c ≡ ranFrom (programIn rs) e n c₀
+    going-used c o s j g h q =
+        let f : n ≡ n - j = omega arith in
+        over c o s j (n - j) (g .same) (run-used j (n - j) (world c o s) (omega arith)) (q ∙ ap (λ (k : ℕ). answerOf k s) f)
 
 -- a scan is a run once SM0 is on
 pub ran-scan : (p : Program) (e b : ℕ) (c : Memory) {bits : List ℕ} → bits ≡ withBit (c .sm) 0 1 → ranFrom p e b (withSM c bits) ≡ runScan ec20 p e b c

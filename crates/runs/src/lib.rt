@@ -79,7 +79,7 @@ fn at_end(f: &[u8], first: usize, count: usize, k: usize) -> bool
 }
 
 // At most `budget` steps, from record 0 on. END is looked for ahead of each step and never given to one, so that no step has to be asked
-// whether it was the last.
+// whether it was the last. The steps that may still be made are counted down: one number in the loop, where steps and budget would be two.
 pub fn run(
     rows: &[[u8; 11]; 56],
     f: &[u8],
@@ -102,11 +102,11 @@ pub fn run(
     let mut left = [0usize; 8];
     let mut back = [0usize; 8];
     let mut s = start();
-    let mut k: usize = 0;
-    while k < budget {
+    let mut more = budget;
+    while 0 < more {
         let due = at_end(f, first, count, s.pc);
         if due {
-            return ended(s, k + 1);
+            return ended(s, budget - more + 1);
         }
         s = step::step(
             rows,
@@ -126,7 +126,7 @@ pub fn run(
             &mut back,
             s,
         );
-        k += 1;
+        more -= 1;
     }
-    answer(s, k)
+    answer(s, budget)
 }

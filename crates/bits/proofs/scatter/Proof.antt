@@ -1,11 +1,9 @@
 -- The invariant: the table is as `spread` has it after the bits passed, and as long as it was. Assumes nothing.
 use mathlib.Core.Path.{_≡_, refl, ap, _∙_}
-use Prim.Native.Nat.{ℕ, _≤_, _-_, _/_, _^_}
+use Prim.Native.Nat.{ℕ, _+_, _≤_, _-_}
 use native.Mathlib.Omega.{arith}
-use lib.Bits.{mask-lt}
 use lib.ListN.{length}
 use Rattle.ec20.specs.Bits.{spread}
-use Rattle.bits.proofs.Steps.{spread-more}
 use Rattle.bits.proofs.scatter.Statement.{statement}
 use Rattle.bits.proofs.scatter.Tie as tie
 
@@ -19,26 +17,33 @@ loop-holds : tie.Need-loop-holds Inv-loop μ-loop
 unfolding spread
 loop-holds c = (omega arith, refl, refl)
 
-put-bit-requires : tie.Need-put-bit-requires Inv-loop μ-loop
-put-bit-requires c κs = mask-lt (c .before .before .before .before .args .v / 2 ^ (c .before .before .loop .i)) 1
-
 loop-again : tie.Need-loop-again Inv-loop μ-loop
 loop-again c =
-    let a = c .before .before .before .before .before .before .before .args in
-    let l = c .before .before .before .before .before .loop in
-    let p = c .before .before .put-bit in (
+    let a = c .before .before .before .before .before .before .before .before .before .before .before .args in
+    let l = c .before .before .before .before .before .before .before .before .before .loop in
+    let p = c .before .before .before .before .before .before .spread-bit in
+    let q = c .before .before .spread-bit2 in (
       omega arith,
-      spread-more (a .bits .now) (l .bits) (p .last .0) (a .first) (l .i) (a .v) (l .inv .1) (p .ensures),
-      p .kept .0 ∙ l .inv .2,
+      q .ensures (a .bits .now) (p .ensures (a .bits .now) (l .inv .1)) ∙ ap (λ (k : ℕ). spread (a .bits .now) (a .first) k (a .v)) (omega arith),
+      q .kept .0 ∙ p .kept .0 ∙ l .inv .2,
     )
 
 same-length : tie.Need-same-length Inv-loop μ-loop
-same-length c = c .before .loop .inv .2
+same-length c = c .before .before .spread-bit3 .kept .0 ∙ c .before .before .before .before .before .before .loop .inv .2
 
 returns : tie.Need-returns Inv-loop μ-loop
 returns c =
-    let a = c .before .before .before .args in
-    c .before .loop .inv .1 ∙ ap (λ (k : ℕ). spread (a .bits .now) (a .first) k (a .v)) (omega arith)
+    let a = c .before .before .before .before .before .before .before .before .args in
+    c .before .before .spread-bit3 .ensures (a .bits .now) (c .before .before .before .before .before .before .loop .inv .1)
+    ∙ ap (λ (k : ℕ). spread (a .bits .now) (a .first) k (a .v)) (omega arith)
+
+same-length-2 : tie.Need-same-length-2 Inv-loop μ-loop
+same-length-2 c = c .before .before .loop .inv .2
+
+returns-2 : tie.Need-returns-2 Inv-loop μ-loop
+returns-2 c =
+    let a = c .before .before .before .before .args in
+    c .before .before .loop .inv .1 ∙ ap (λ (k : ℕ). spread (a .bits .now) (a .first) k (a .v)) (omega arith)
 
 pub scatter-spec : {M : Type 1} → statement M
 scatter-spec =
@@ -48,10 +53,14 @@ scatter-spec =
     μ-loop
     loop-holds
     (λ c. omega arith)
+    (λ c κs. (omega arith, omega arith))
     (λ c. omega arith)
-    put-bit-requires
+    (λ c κs. (omega arith, omega arith))
     (λ c. omega arith)
     (λ c. omega arith)
     loop-again
+    (λ c κs. (omega arith, omega arith))
     same-length
-    returns)
+    returns
+    same-length-2
+    returns-2)
