@@ -1,12 +1,12 @@
 -- What the code computes, as the definitions say it. Assumes nothing.
-use mathlib.Core.Path.{_≡_, ap, ap₂, _∙_}
+use mathlib.Core.Path.{_≡_, refl, ap, ap₂, _∙_}
 use mathlib.Core.List.{List}
 use Prim.Native.Nat.{ℕ, zero, suc, _+_, _*_, _-_, _/_, _%_, _^_, _<_, _≤_}
 use native.Mathlib.Nat.{mod-lt, pow-suc, mul-le-mul-right}
 use native.Mathlib.Numerals.{add-one}
 use native.Mathlib.Omega.{arith}
 use lib.Pow.{shl-exact}
-use lib.Bits.{bitAnd, bitOr, and-mask, or-shifted-r}
+use lib.Bits.{bitAnd, bitOr, and-mask, and-high, or-shifted-r}
 use Rattle.ec20.specs.Bits.{bitAt, packed, byteWith, withBit, spread}
 
 -- a number below 8 is one of eight
@@ -29,10 +29,13 @@ module _ (x j b : ℕ) (hx : x < 256) (hj : j < 8) (hb : b < 2) where
       by8 (λ (k : ℕ). byteWith x k b < 256) (omega arith) (omega arith) (omega arith) (omega arith) (omega arith) (omega arith) (omega arith) (omega arith) j hj
 
   -- bit j where it stands in the byte, and b where it is to stand
-  bit-in : (bitAnd (x / 2 ^ j) 1 * 2 ^ j) % 2 ^ 64 ≡ x / 2 ^ j % 2 * 2 ^ j
+  bit-in : bitAnd x ((1 * 2 ^ j) % 2 ^ 64) ≡ x / 2 ^ j % 2 * 2 ^ j
   bit-in =
-      ap (λ (y : ℕ). (y * 2 ^ j) % 2 ^ 64) (and-mask (x / 2 ^ j) 1)
-      ∙ shl-exact {a = x / 2 ^ j % 2} 1 j 64 (mod-lt (x / 2 ^ j) (omega arith)) (omega arith)
+      ap (bitAnd x) (shl-exact {a = 1} 1 j 64 (omega arith) (omega arith) ∙ one-bit)
+      ∙ and-high x 1 j
+    where
+      one-bit : 1 * 2 ^ j ≡ 2 ^ (1 + j) - 2 ^ j
+      one-bit = by8 (λ (k : ℕ). 1 * 2 ^ k ≡ 2 ^ (1 + k) - 2 ^ k) refl refl refl refl refl refl refl refl j hj
 
   bit-new : (b * 2 ^ j) % 2 ^ 64 ≡ b * 2 ^ j
   bit-new = shl-exact {a = b} 1 j 64 hb (omega arith)
@@ -47,11 +50,11 @@ module _ (x j b : ℕ) (hx : x < 256) (hj : j < 8) (hb : b < 2) where
       by8 (λ (k : ℕ). x - x / 2 ^ k % 2 * 2 ^ k + b * 2 ^ k ≡ byteWith x k b) (omega arith) (omega arith) (omega arith) (omega arith) (omega arith) (omega arith) (omega arith) (omega arith) j hj
 
   -- the byte has its bit j to give
-  pub bit-taken : (bitAnd (x / 2 ^ j) 1 * 2 ^ j) % 2 ^ 64 ≤ x
+  pub bit-taken : bitAnd x ((1 * 2 ^ j) % 2 ^ 64) ≤ x
   bit-taken = rw bit-in bit-within
 
   -- without its bit j, and with b there, it is the byte with b for bit j
-  pub byte-code : x - (bitAnd (x / 2 ^ j) 1 * 2 ^ j) % 2 ^ 64 + (b * 2 ^ j) % 2 ^ 64 ≡ byteWith x j b
+  pub byte-code : x - bitAnd x ((1 * 2 ^ j) % 2 ^ 64) + (b * 2 ^ j) % 2 ^ 64 ≡ byteWith x j b
   byte-code = ap₂ (λ (y z : ℕ). x - y + z) bit-in bit-new ∙ bit-changed
 
 -- one more bit is gathered

@@ -25,7 +25,7 @@ pub fn byte_with(x: u8, j: usize, b: usize) -> u8
     ensures { λ r. ⌜ r ≡ byteWith x j b ⌝ }
 {
     let y = x as usize;
-    (y - (((y >> j) & 1) << j) + (b << j)) as u8
+    (y - (y & (1 << j)) + (b << j)) as u8
 }
 
 // b, 0 or 1, for bit number k of the table.

@@ -24,4 +24,4 @@ returns c = byte-code (c .args .x) (c .args .j) (c .args .b) (c .fits .x .fits) 
 pub byte-with-spec : {M : Type 1} → statement M
 byte-with-spec =
     tie.close
-    (tie.spec (λ c. search needs) (λ c. search needs) sub-result (λ c. search needs) add-result cast-result returns)
+    (tie.spec (λ c. search needs) sub-result (λ c. search needs) add-result cast-result returns)
