@@ -61,8 +61,8 @@ fn spread_bit(bits: &mut [u8], first: usize, i: usize, v: u64)
     put_bit(bits, first + i, ((v >> i) & 1) as usize);
 }
 
-// The low bits of v in the size bits from number first on, the lowest first. They go two at a time: one at a time it is so short that it is
-// inlined wherever a word instruction stores, and the store of a D word, beside it, is then not (docs/BENCHMARKS.md).
+// The low bits of v in the size bits from number first on, the lowest first. They go two at a time: one at a time this is so short that it is
+// inlined wherever a word instruction stores, and the store of a D pair, beside it, is then called (docs/BENCHMARKS.md).
 pub fn scatter(bits: &mut [u8], first: usize, size: usize, v: u64)
     requires { ⌜ (size ≤ 32) × (first < 2 ^ 63) ⌝ }
     ensures { λ _. ⌜ now (bits .exit) ≡ spread (now (bits .entry)) first size v ⌝ }

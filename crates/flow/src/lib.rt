@@ -65,7 +65,7 @@ fn make_flow(s: Machine, f: usize, n: usize, m: usize) -> Machine
     r
 }
 
-// After an action.
+// After an action. Its fields are written out: a copy with two of them changed stands in memory at each word instruction (docs/BENCHMARKS.md).
 pub fn act(s: Machine) -> Machine
     requires { ⌜ s .pc < 2 ^ 63 ⌝ }
     ensures { λ r. ⌜ r ≡ acted s ⌝ }
