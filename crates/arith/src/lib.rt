@@ -84,7 +84,7 @@ fn judged(z: i64, zero: bool, above: bool, below: bool) -> Outcome
 }
 
 // What is stored of the exact sum or difference z, and the flags of z itself.
-pub fn sum(z: i64, h: u64) -> Outcome
+fn sum(z: i64, h: u64) -> Outcome
     requires { ⌜ (0 < h) × (h ≤ 2 ^ 31) × (mag z < h + h) ⌝ }
     ensures { λ r. ⌜ r ≡ sumOf h z ⌝ }
 {
@@ -153,7 +153,7 @@ pub fn div(a: i64, b: i64, h: u64) -> Outcome
 }
 
 // The largest whole root of n, by counting up.
-pub fn root(n: u64) -> u64
+fn root(n: u64) -> u64
     requires { ⌜ n < 2 ^ 32 ⌝ }
     ensures { λ r. ⌜ r ≡ rootOf n ⌝ }
 {

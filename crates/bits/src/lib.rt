@@ -20,7 +20,7 @@ pub fn bit_at(bits: &[u8], k: usize) -> usize
 }
 
 // x with b, 0 or 1, for bit j.
-pub fn byte_with(x: u8, j: usize, b: usize) -> u8
+fn byte_with(x: u8, j: usize, b: usize) -> u8
     requires { ⌜ (j < 8) × (b < 2) ⌝ }
     ensures { λ r. ⌜ r ≡ byteWith x j b ⌝ }
 {
@@ -40,7 +40,7 @@ pub fn put_bit(bits: &mut [u8], k: usize, b: usize)
 }
 
 // The size bits from number first on as a number, the first lowest.
-pub fn gather(bits: &[u8], first: usize, size: usize) -> u64
+fn gather(bits: &[u8], first: usize, size: usize) -> u64
     requires { ⌜ (size ≤ 32) × (first < 2 ^ 63) ⌝ }
     ensures { λ r. ⌜ (r ≡ packed (now (bits .entry)) first size) × (r < 2 ^ size) ⌝ }
 {
@@ -63,7 +63,7 @@ fn spread_bit(bits: &mut [u8], first: usize, i: usize, v: u64)
 
 // The low bits of v in the size bits from number first on, the lowest first. They go two at a time: one at a time this is so short that it is
 // inlined wherever a word instruction stores, and the store of a D pair, beside it, is then called (docs/BENCHMARKS.md).
-pub fn scatter(bits: &mut [u8], first: usize, size: usize, v: u64)
+fn scatter(bits: &mut [u8], first: usize, size: usize, v: u64)
     requires { ⌜ (size ≤ 32) × (first < 2 ^ 63) ⌝ }
     ensures { λ _. ⌜ now (bits .exit) ≡ spread (now (bits .entry)) first size v ⌝ }
 {
@@ -86,14 +86,14 @@ fn width(w: usize) -> usize
 }
 
 // One more than the largest number of width w.
-pub fn half_of(w: usize) -> u64
+fn half_of(w: usize) -> u64
     ensures { λ r. ⌜ r ≡ half w ⌝ }
 {
     if w == 16 { 32768 } else { 2147483648 }
 }
 
 // How many bits a group of size n has as a number of width w: 4n, and never more than the width.
-pub fn group_size(n: usize, w: usize) -> usize
+fn group_size(n: usize, w: usize) -> usize
     ensures { λ r. ⌜ (r ≡ groupSize w n) × (r ≤ 32) ⌝ }
 {
     let all = width(w);

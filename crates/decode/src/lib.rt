@@ -46,7 +46,7 @@ fn instr_by(form: u8, r: Rec) -> Instr
 }
 
 // The instruction of a record.
-pub fn instr_of(rows: &[[u8; 11]; 56], r: Rec) -> Instr
+fn instr_of(rows: &[[u8; 11]; 56], r: Rec) -> Instr
     requires { ⌜ now rows ≡ cells ⌝ }
     ensures { λ i. ⌜ i ≡ instrOf r ⌝ }
 {

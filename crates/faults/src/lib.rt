@@ -146,7 +146,7 @@ fn is_target(p: Place, o: Operand) -> bool
 }
 
 // The operand is as its place's role allows: one test, by the role.
-pub fn is_allowed(p: Place, o: Operand) -> bool
+fn is_allowed(p: Place, o: Operand) -> bool
     requires { ⌜ Small o ⌝ }
     ensures { λ r. ⌜ r ≡ allowed ec20 p o ⌝ }
 {
@@ -218,7 +218,7 @@ fn fault_of(w: Row, r: Rec) -> usize
 }
 
 // The number that refuses the record.
-pub fn fault_in(rows: &[[u8; 11]; 56], r: Rec) -> usize
+fn fault_in(rows: &[[u8; 11]; 56], r: Rec) -> usize
     requires { ⌜ now rows ≡ cells ⌝ }
     requires { ⌜ SmallRec r ⌝ }
     ensures { λ n. ⌜ n ≡ faultIn ec20 r ⌝ }

@@ -4,18 +4,12 @@ ghost use Prim.Native.Nat.{_+_, _<_, _≤_, _^_};
 ghost use Rattle.ec20.specs.Numbers.{low, signed, wrap, isZero, isAbove, isBelow, isLowest};
 ghost use lib.IntN.{pos, negℤ, _+ℤ_, _-ℤ_, _*ℤ_};
 ghost use lib.Signed.{ltZ, mag, quotZ, remZ};
-ghost use mir.Syntax.{w16, w32, w64};
+ghost use mir.Syntax.{w16, w64};
 ghost use mir.Val.{SFits};
 ghost use mathlib.Core.Bool.{false};
 
-// A 16-bit and a 32-bit number as a 64-bit one, and back.
+// A 16-bit number as a 64-bit one, and back.
 pub fn wide16(x: i16) -> i64
-    ensures { λ r. ⌜ r ≡ x ⌝ }
-{
-    x as i64
-}
-
-pub fn wide32(x: i32) -> i64
     ensures { λ r. ⌜ r ≡ x ⌝ }
 {
     x as i64
@@ -26,13 +20,6 @@ pub fn narrow16(x: i64) -> i16
     ensures { λ r. ⌜ r ≡ x ⌝ }
 {
     x as i16
-}
-
-pub fn narrow32(x: i64) -> i32
-    requires { ⌜ SFits w32 x ⌝ }
-    ensures { λ r. ⌜ r ≡ x ⌝ }
-{
-    x as i32
 }
 
 // The sum, the difference, the opposite and the product, where they fit.
@@ -132,20 +119,6 @@ pub fn of_bits16(u: u64) -> i16
     narrow16(of_bits(u, 32768))
 }
 
-// The bits of a 32-bit number, and the 32-bit number of the bits u.
-pub fn bits32(x: i32) -> u64
-    ensures { λ r. ⌜ (r ≡ low 4294967296 x) × (r < 4294967296) ⌝ }
-{
-    bits(wide32(x), 4294967296)
-}
-
-pub fn of_bits32(u: u64) -> i32
-    requires { ⌜ u < 4294967296 ⌝ }
-    ensures { λ r. ⌜ r ≡ signed 2147483648 u ⌝ }
-{
-    narrow32(of_bits(u, 2147483648))
-}
-
 // The low bits of z as a signed number of the range from -h to h - 1.
 pub fn wrapped(z: i64, h: u64) -> i64
     requires { ⌜ (0 < h) × (h < 2 ^ 62) ⌝ }
@@ -155,7 +128,7 @@ pub fn wrapped(z: i64, h: u64) -> i64
 }
 
 // The lowest number of the range from -h to h - 1.
-pub fn lowest(h: u64) -> i64
+fn lowest(h: u64) -> i64
     requires { ⌜ h < 2 ^ 63 ⌝ }
     ensures { λ r. ⌜ r ≡ negℤ (pos h) ⌝ }
 {

@@ -101,7 +101,7 @@ pub fn find(f: &[u8], first: usize, count: usize, from: usize, w: Want) -> Found
 }
 
 // A label's place: its first LBL.
-pub fn label(f: &[u8], first: usize, count: usize, l: usize) -> Found
+fn label(f: &[u8], first: usize, count: usize, l: usize) -> Found
     requires { ⌜ Held (length (now f)) first count ⌝ }
     ensures { λ r. ⌜ r ≡ firstLabel (controlsOf (programIn (recordsFrom (now (f .entry)) first count))) count l ⌝ }
 {

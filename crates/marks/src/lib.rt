@@ -14,7 +14,7 @@ pub fn is_marked(map: &[u8; 1000], i: usize) -> bool
 }
 
 // The `extent` words from `start` on are marked.
-pub fn mark(map: &mut [u8; 1000], start: usize, extent: usize)
+fn mark(map: &mut [u8; 1000], start: usize, extent: usize)
     requires { ⌜ start + extent < 2 ^ 64 ⌝ }
     ensures { λ _. ⌜ now (map .exit) ≡ marking (now (map .entry)) start extent ⌝ }
 {

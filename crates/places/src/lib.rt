@@ -45,7 +45,7 @@ fn used_by(rows: &[[u8; 11]; 56], f: &[u8], first: usize, count: usize) -> [u8; 
 }
 
 // The words in use: those that an operand of some record holds.
-pub fn used_words(f: &[u8], first: usize, count: usize) -> [u8; 1000]
+fn used_words(f: &[u8], first: usize, count: usize) -> [u8; 1000]
     requires { ⌜ Held (length (now f)) first count ⌝ }
     ensures { λ r. ⌜ r ≡ mapOf ec20 (λ i. someRecord (holds i) (recordsFrom (now (f .entry)) first count)) ⌝ }
 {

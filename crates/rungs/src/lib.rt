@@ -88,7 +88,7 @@ fn jump_ok(s: Rung) -> bool
 }
 
 // Does the record keep the rule, in the state s?
-pub fn keeps(i: Instr, s: Rung) -> bool
+fn keeps(i: Instr, s: Rung) -> bool
     ensures { λ r. ⌜ r ≡ keeps i s ⌝ }
 {
     match i {
@@ -221,7 +221,7 @@ fn no_flow(s: Rung) -> Rung
 }
 
 // The state after a record.
-pub fn after_record(i: Instr, s: Rung) -> Rung
+fn after_record(i: Instr, s: Rung) -> Rung
     requires { ⌜ Within s ⌝ }
     ensures { λ r. ⌜ r ≡ afterRecord i s ⌝ }
 {
