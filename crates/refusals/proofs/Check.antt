@@ -1,14 +1,15 @@
 -- THE TABLE OF REFUSALS: the check answers as the table says (told), and the table says one answer (only).
-use Prim.Native.Nat.{ℕ, _<_}
+use Prim.Native.Nat.{ℕ, _<_, _≤_}
 use mathlib.Core.Bool.{Bool}
 use mathlib.Core.List.{List}
-use mathlib.Core.Path.{_≡_, refl, sym, ap, _∙_}
+use mathlib.Core.Logic.{_↔_}
+use mathlib.Core.Path.{_≡_, refl, sym, ap, subst, _∙_}
 use native.Mathlib.Omega.{arith}
 use native.Mathlib.Decide.{decLt}
 use Rattle.ec20.specs.declared.Judged.{Judged}
 use Rattle.ec20.specs.declared.Judged.the-variants.{Fine, Fault}
 use Rattle.ec20.specs.declared.Verdict.{Verdict}
-use Rattle.ec20.specs.declared.Verdict.the-variants.{Refused}
+use Rattle.ec20.specs.declared.Verdict.the-variants.{Accepted, Refused}
 use Rattle.ec20.specs.Basics.{pick, then}
 use Rattle.ec20.specs.Devices.{Device, ec20}
 use Rattle.ec20.specs.File.{countOf, recordsOf, framed}
@@ -27,15 +28,17 @@ use Rattle.refusals.specs.Frame.{no-records}
 use Rattle.refusals.specs.Rung.{Line5}
 use Rattle.refusals.specs.Structure.{Line6}
 use Rattle.refusals.specs.Labels.{Line7}
+use Rattle.refusals.specs.Steps.{W-of, above}
 use Rattle.refusals.specs.Table.{Told, told-1, told-2, told-3, told-4, told-5, told-6, told-7, told-8, accepted}
 use Rattle.refusals.specs.Table.{recordAt, Not1, Not2-4, Not5, Not6, Not7, First2-4}
 use Rattle.refusals.proofs.Search.{Judges, judged-fine, judged-fault}
 use Rattle.refusals.proofs.Frame.{unframed, frame-right, right-frame, wrong-frame}
 use Rattle.refusals.proofs.Records.{Number, is-2, is-3, is-4, is-0, none-broken, only-2, only-3, only-4, Judges2-4, judged-2-4, bad-fine, bad-fault}
+use Rattle.refusals.proofs.Keeps.{formed}
 use Rattle.refusals.proofs.Rung.{judged-5}
 use Rattle.refusals.proofs.Structure.{judged-6}
 use Rattle.refusals.proofs.Labels.{judged-7}
-use Rattle.refusals.proofs.Steps.{long, not-long}
+use Rattle.refusals.proofs.Steps.{w-is, w-there, line-8, long, not-long}
 
 module _ (v : Device) (f : List ℕ) where
   abbrev p : Program
@@ -59,18 +62,32 @@ module _ (v : Device) (f : List ℕ) where
 
   judged-rung : Judges 5 (countOf f) (Line5 p) J5
   unfolding programOf
-  judged-rung = judged-5 p
+  judged-rung = judged-5 p (formed f)
 
   judged-structure : Judges 6 (countOf f) (Line6 p) J6
   unfolding programOf
   judged-structure = judged-6 p
 
+  some-record : Not1 f → 0 < countOf f
+  some-record n = elim (decLt 0 (countOf f)) [ yes h ↦ h | no h ↦ absurd (n (no-records (omega arith))) ]
+
   judged-labels : Not1 f → J6 ≡ Fine → Judges 7 (countOf f) (Line7 p) J7
   unfolding programOf
   judged-labels n e =
-      let some : 0 < countOf f = elim (decLt 0 (countOf f)) [ yes h ↦ h | no h ↦ absurd (n (no-records (omega arith))) ] in
-      let d = sound-walk (walked p) (walked-unsound (controlsOf p) (p .count) some ∙ e) in
+      let d = sound-walk (walked p) (walked-unsound (controlsOf p) (p .count) (some-record n) ∙ e) in
       judged-7 p (d .0) (stepsWalked (walked p)) (d .1)
+
+  none-6 : Not6 f → J6 ≡ Fine
+  none-6 h = judged-fine 6 (countOf f) (Line6 p) J6 judged-structure h
+
+  -- W, where 1 and 6 do not refuse
+  pub steps-there : Not1 f → Not6 f → W-of p (wOf p)
+  unfolding programOf
+  steps-there n d = w-there p (some-record n) (none-6 d)
+
+  -- the check's W is W in words, and no other is
+  pub w-exactly : Not1 f → Not6 f → (w : ℕ) → W-of p w ↔ (w ≡ wOf p)
+  w-exactly n d w = (λ s. sym (w-is p s), λ e. subst (W-of p) (sym e) (steps-there n d))
 
   -- ---- the check answers as the table says
 
@@ -84,9 +101,10 @@ module _ (v : Device) (f : List ℕ) where
   by-steps : Not1 f → Not2-4 v f → Not5 f → Not6 f → Not7 f → Told v f (verdictOf p (tooLong (wOf p)))
   unfolding programOf
   by-steps a b c d e =
+      let w = steps-there a d in
       elim (decLt 10000000 (wOf p)) [
-        | yes h ↦ rw (long p h) (told-8 a b c d e h)
-        | no h ↦ rw (not-long p h) (accepted a b c d e h)
+        | yes h ↦ rw (long p h) (told-8 a b c d e (above w (omega arith)))
+        | no h ↦ rw (not-long p (omega arith)) (accepted a b c d e (λ l. h (line-8 p l)) w)
       ]
 
   -- 2 to 4, then 5, 6, 7, then 8
@@ -124,9 +142,6 @@ module _ (v : Device) (f : List ℕ) where
   none-5 : Not5 f → J5 ≡ Fine
   none-5 h = judged-fine 5 (countOf f) (Line5 p) J5 judged-rung h
 
-  none-6 : Not6 f → J6 ≡ Fine
-  none-6 h = judged-fine 6 (countOf f) (Line6 p) J6 judged-structure h
-
   none-7 : Not1 f → J6 ≡ Fine → Not7 f → J7 ≡ Fine
   none-7 n e h = judged-fine 7 (countOf f) (Line7 p) J7 (judged-labels n e) h
 
@@ -142,8 +157,10 @@ module _ (v : Device) (f : List ℕ) where
       answered n (none-2-4 a) (none-5 b) (judged-fault 6 (countOf f) (Line6 p) k J6 judged-structure h) refl refl
   answer (told-7 {k = k} n a b c h) =
       answered n (none-2-4 a) (none-5 b) (none-6 c) (judged-fault 7 (countOf f) (Line7 p) k J7 (judged-labels n (none-6 c)) h) refl
-  answer (told-8 n a b c d h) = answered n (none-2-4 a) (none-5 b) (none-6 c) (none-7 n (none-6 c) d) (long p h)
-  answer (accepted n a b c d h) = answered n (none-2-4 a) (none-5 b) (none-6 c) (none-7 n (none-6 c) d) (not-long p h)
+  answer (told-8 n a b c d h) = answered n (none-2-4 a) (none-5 b) (none-6 c) (none-7 n (none-6 c) d) (long p (line-8 p h))
+  answer (accepted n a b c d h s) =
+      let few : wOf p ≤ 10000000 = elim (decLt 10000000 (wOf p)) [ yes g ↦ absurd (h (above (steps-there n c) g)) | no g ↦ omega arith ] in
+      answered n (none-2-4 a) (none-5 b) (none-6 c) (none-7 n (none-6 c) d) (not-long p few) ∙ ap (λ (w : ℕ). Accepted (countOf f) w) (w-is p s)
 
 -- the table determines the answer
 pub only : {v : Device} {f : List ℕ} {r s : Verdict} → Told v f r → Told v f s → r ≡ s

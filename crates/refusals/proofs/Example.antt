@@ -3,11 +3,15 @@ use Prim.Native.Nat.{ℕ, zero, suc}
 use mathlib.Core.List.{List, [], _∷_}
 use mathlib.Core.Path.{_≡_, refl, sym, ap, subst}
 use native.Mathlib.Omega.{arith}
+use lib.IntN.{pos, negℤ}
 use lib.ListN.{replicate, length}
+use lib.Signed.{leZ-yes}
+use Rattle.ec20.specs.declared.Operand.{Operand}
 use Rattle.ec20.specs.declared.Verdict.{Verdict}
 use Rattle.ec20.specs.declared.Verdict.the-variants.{Accepted, Refused}
 use Rattle.ec20.specs.Devices.{ec20}
 use Rattle.ec20.specs.Code.{programOf}
+use Rattle.ec20.specs.Roles.{source}
 use Rattle.ec20.specs.Control.{controlsOf}
 use Rattle.ec20.specs.Labels.{opensOf}
 use Rattle.ec20.specs.Check.{checkFor}
@@ -16,13 +20,19 @@ use Rattle.ec20.proofs.Files.{K, Y, SM, D, r0, r1, r2, NOP, LD, FOR, NEXT, CJ, 
 use Rattle.ec20.proofs.Tests.{differ}
 use Rattle.refusals.specs.First.{Never}
 use Rattle.refusals.specs.Frame.{Line1, under-8, edition, no-records, many-records, distance, past-start, comment}
-use Rattle.refusals.specs.Records.{Line2, unknown, first, second, third, not-allowed, not-zero, Line3, wrong, Line4, meets}
+use Rattle.refusals.specs.Records.{Line2, unknown, first, second, third, Line3, wrong, Line4, meets}
+use Rattle.refusals.specs.Admits.{as-it-is, less-2-to-32, Source-16, constant-16, group-16-M, Admits, at-unused}
 use Rattle.refusals.specs.Records.{Line2-4, by-2, by-3, by-4, spare}
-use Rattle.refusals.specs.Rung.{rungAt, Line5}
+use Rattle.refusals.specs.Keeps.{acts, from-12-to-14}
+use Rattle.refusals.specs.Rung.{rungAt, Line5, broken}
 use Rattle.refusals.specs.Structure.{openAt, Line6, stray-next, ninth-for, early-end, last-not-end, for-open-there}
 use Rattle.refusals.specs.Labels.{Line7, set-twice, astray}
-use Rattle.refusals.specs.Steps.{Line8}
+use Rattle.refusals.specs.Steps.{nothing, one-record, one-loop, W-of, Line8, above}
 use Rattle.refusals.specs.Table.{Told, accepted, recordAt, Not1, Not2-4, Not5, Not6, Not7, First2-4, First5, First6, First7}
+use Rattle.refusals.proofs.Admits.{admitted}
+use Rattle.refusals.proofs.Keeps.{formed}
+use Rattle.refusals.proofs.Rung.{before, line-5 as rung-broken, not-line-5 as rung-kept}
+use Rattle.refusals.proofs.Steps.{steady-single, end-single, line-8 as line-8-over}
 use Rattle.refusals.proofs.Check.{told, only, answer}
 use Rattle.refusals.proofs.Refused.{refused-1, refused-2, refused-3, refused-4, refused-5, refused-6, refused-7, refused-8}
 
@@ -60,11 +70,11 @@ file-3 = file (LD (SM 0) ∷ r1 37 (K 0) ∷ r1 0 (K 0) ∷ END ∷ [])
 
 line-3 : Line3 ec20 (recordAt file-3 1)
 unfolding computing
-line-3 = wrong first (not-allowed (λ e. omega arith) refl)
+line-3 = wrong first (λ z. differ (sym (admitted ec20 (recordAt file-3 1 .first) z)))
 
 also-3 : Line3 ec20 (recordAt file-3 2)
 unfolding computing
-also-3 = wrong first (not-zero refl (λ z. let e : _≡_ {A = ℕ} 1 0 = z .kind in omega arith))
+also-3 = wrong first (λ z. differ (sym (admitted ec20 (recordAt file-3 2 .first) z)))
 
 check-3 : checkFor ec20 file-3 ≡ Refused 3 1
 unfolding computing
@@ -72,6 +82,47 @@ check-3 = refl
 
 table-3 : Not1 file-3 × First2-4 ec20 file-3 1 × (Line2 (recordAt file-3 1) → ⊥) × Line3 ec20 (recordAt file-3 1)
 table-3 = refused-3 ec20 file-3 1 .0 check-3
+
+-- a 16-bit source at its edges: constants from -32768 to 32767, groups of n = 1 to 4 that end at M1999
+abbrev number : ℕ → Operand
+number u = record { kind = 1; group = 0; value = u }
+
+abbrev of-M : ℕ → ℕ → Operand
+of-M n a = record { kind = 4; group = n; value = a }
+
+lowest : Source-16 ec20 (number 4294934528)
+lowest =
+    constant-16 (record {
+      kind = refl;
+      group = refl;
+      number = negℤ (pos 32768);
+      stands = less-2-to-32 (omega arith);
+      from = leZ-yes tt;
+      to = leZ-yes tt;
+    })
+
+highest : Source-16 ec20 (number 32767)
+highest =
+    constant-16 (record { kind = refl; group = refl; number = pos 32767; stands = as-it-is (omega arith); from = leZ-yes tt; to = leZ-yes tt })
+
+too-low : Admits ec20 (source 16) (number 4294934527) → ⊥
+unfolding computing
+too-low z = differ (sym (admitted ec20 (number 4294934527) z))
+
+too-high : Admits ec20 (source 16) (number 32768) → ⊥
+unfolding computing
+too-high z = differ (sym (admitted ec20 (number 32768) z))
+
+last-group : Source-16 ec20 (of-M 4 1984)
+last-group = group-16-M (record { kind = refl; from = omega arith; to = omega arith; inside = λ i h. omega arith })
+
+past-the-end : Admits ec20 (source 16) (of-M 4 1985) → ⊥
+unfolding computing
+past-the-end z = differ (sym (admitted ec20 (of-M 4 1985) z))
+
+group-of-five : Admits ec20 (source 16) (of-M 5 0) → ⊥
+unfolding computing
+group-of-five z = differ (sym (admitted ec20 (of-M 5 0) z))
 
 -- ---- 4: DMOV to D7899, whose second word is D7900; DMOV to D7898 passes
 
@@ -103,7 +154,10 @@ file-5 = file (LD (SM 0) ∷ LD (SM 0) ∷ r1 12 (Y 0) ∷ END ∷ [])
 
 line-5 : Line5 (programOf file-5) 2
 unfolding computing rungAt
-line-5 = refl
+line-5 =
+    broken (before (programOf file-5) (formed file-5) 2) (λ k.
+    let e : _≡_ {A = ℕ} 1 0 = k .blockless (acts (from-12-to-14 (omega arith) (omega arith))) in
+    omega arith)
 
 check-5 : checkFor ec20 file-5 ≡ Refused 5 2
 unfolding computing
@@ -161,6 +215,14 @@ check-7-cj : checkFor ec20 file-7-cj ≡ Refused 7 2
 unfolding computing
 check-7-cj = refl
 
+-- ---- W: FOR 3, LD SM0, INC D0, NEXT, END has W 11 (T9), summed record by record
+
+w-11 : W-of (programOf (file (FOR 3 ∷ LD (SM 0) ∷ r1 37 (D 0) ∷ NEXT ∷ END ∷ []))) 11
+unfolding computing
+w-11 =
+    one-loop {b = 3} {n = 3} refl (one-record (steady-single _ tt) (one-record (steady-single _ tt) nothing)) refl
+    (one-record (end-single _ refl) nothing)
+
 -- ---- 8: W 10,000,000 passes, and one NOP more is 8
 
 abbrev most : List ℕ → List ℕ
@@ -168,7 +230,11 @@ most r = file (FOR 2292 ∷ FOR 4361 ∷ NEXT ∷ NEXT ∷ NOP ∷ NOP ∷ r ∷
 
 line-8 : Line8 (programOf (most NOP))
 unfolding computing
-line-8 = omega arith
+line-8 =
+    above
+    (one-loop {b = 3} {n = 2292} refl (one-loop {b = 2} {n = 4361} refl nothing refl nothing) refl
+    (one-record (steady-single _ tt) (one-record (steady-single _ tt) (one-record (steady-single _ tt) (one-record (end-single _ refl) nothing)))))
+    (omega arith)
 
 check-8 : checkFor ec20 (most NOP) ≡ Refused 8 0
 unfolding computing
@@ -189,7 +255,7 @@ file-order = file (r1 12 (Y 0) ∷ r1 37 (D 7900) ∷ r0 24 ∷ END ∷ [])
 
 order-5 : Line5 (programOf file-order) 0
 unfolding computing rungAt
-order-5 = refl
+order-5 = rung-broken (programOf file-order) (formed file-order) 0 refl
 
 order-2 : Line2 (recordAt file-order 2)
 unfolding computing
@@ -222,19 +288,16 @@ not-2-4 : Line2-4 ec20 (recordAt shortest 0) → ⊥
 unfolding computing
 not-2-4 (by-2 (unknown e)) = differ e
 not-2-4 (by-2 (spare g)) = g refl
-not-2-4 (by-3 (wrong first (not-allowed g e))) = g refl
-not-2-4 (by-3 (wrong second (not-allowed g e))) = g refl
-not-2-4 (by-3 (wrong third (not-allowed g e))) = g refl
-not-2-4 (by-3 (wrong first (not-zero e g))) = g (record { kind = refl; group = refl; value = refl })
-not-2-4 (by-3 (wrong second (not-zero e g))) = g (record { kind = refl; group = refl; value = refl })
-not-2-4 (by-3 (wrong third (not-zero e g))) = g (record { kind = refl; group = refl; value = refl })
+not-2-4 (by-3 (wrong first g)) = g (at-unused refl (record { kind = refl; group = refl; value = refl }))
+not-2-4 (by-3 (wrong second g)) = g (at-unused refl (record { kind = refl; group = refl; value = refl }))
+not-2-4 (by-3 (wrong third g)) = g (at-unused refl (record { kind = refl; group = refl; value = refl }))
 not-2-4 (by-4 (meets i first t k)) = differ (sym (t .written))
 not-2-4 (by-4 (meets i second t k)) = differ (sym (t .written))
 not-2-4 (by-4 (meets i third t k)) = differ (sym (t .written))
 
 not-5 : Line5 (programOf shortest) 0 → ⊥
 unfolding computing rungAt
-not-5 e = differ e
+not-5 l = rung-kept (programOf shortest) (formed shortest) 0 refl l
 
 not-6 : Line6 (programOf shortest) 0 → ⊥
 unfolding computing openAt
@@ -258,4 +321,5 @@ check-shortest : checkFor ec20 shortest ≡ Accepted 1 1
 unfolding computing
 check-shortest =
     answer ec20 shortest
-    (accepted not-1 (alone-never _ not-2-4) (alone-never _ not-5) (alone-never _ not-6) (alone-never _ not-7) (λ h. omega arith))
+    (accepted not-1 (alone-never _ not-2-4) (alone-never _ not-5) (alone-never _ not-6) (alone-never _ not-7)
+    (λ l. let h = line-8-over (programOf shortest) l in omega (arith, h)) (one-record (end-single _ refl) nothing))

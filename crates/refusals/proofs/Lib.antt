@@ -4,9 +4,11 @@ pub mod Search
 pub mod Tells
 pub mod Has
 pub mod Frame
+pub mod Admits
 pub mod Operands
 pub mod Work
 pub mod Records
+pub mod Keeps
 pub mod Rung
 pub mod Controls
 pub mod Structure

@@ -12,10 +12,11 @@ use Rattle.ec20.specs.Code.{programOf}
 use Rattle.ec20.specs.Check.{wOf, checkFor}
 use Rattle.refusals.specs.Frame.{Line1}
 use Rattle.refusals.specs.Records.{Line2, Line3, Line4}
-use Rattle.refusals.specs.Steps.{Line8}
+use Rattle.refusals.specs.Steps.{W-of, Line8}
 use Rattle.refusals.specs.Table.{Told, told-1, told-2, told-3, told-4, told-5, told-6, told-7, told-8, accepted}
 use Rattle.refusals.specs.Table.{recordAt, Not1, Not2-4, Not5, Not6, Not7, Not8, First2-4, First5, First6, First7}
-use Rattle.refusals.proofs.Check.{told, answer}
+use Rattle.refusals.proofs.Check.{steps-there, w-exactly, told, answer}
+use Rattle.refusals.proofs.Steps.{w-is}
 
 -- what each number says
 abbrev Says : Device → List ℕ → Verdict → Type 0
@@ -42,7 +43,7 @@ says (told-5 a b c) = (a, b, c)
 says (told-6 a b c d) = (a, b, c, d)
 says (told-7 a b c d e) = (a, b, c, d, e)
 says (told-8 a b c d e l) = (refl, a, b, c, d, e, l)
-says (accepted a b c d e l) = (refl, refl, a, b, c, d, e, l)
+says {f = f} (accepted a b c d e l s) = (refl, sym (w-is (programOf f) s), a, b, c, d, e, l)
 
 module _ (v : Device) (f : List ℕ) where
   holds : {r : Verdict} → checkFor v f ≡ r → Says v f r
@@ -79,7 +80,18 @@ module _ (v : Device) (f : List ℕ) where
       → (checkFor v f ≡ Accepted n w)
       ↔ ((n ≡ countOf f) × (w ≡ wOf (programOf f)) × Not1 f × Not2-4 v f × Not5 f × Not6 f × Not7 f × Not8 f)
   not-refused n w =
-      (holds, λ c. rw (c .0, c .1) (answer v f (accepted (c .2) (c .3) (c .4) (c .5) (c .6) (c .7))))
+      (holds, λ c. rw (c .0, c .1) (answer v f (accepted (c .2) (c .3) (c .4) (c .5) (c .6) (c .7) (steps-there v f (c .2) (c .5)))))
+
+  -- the same with W in words
+  pub accepted-in-words : (n w : ℕ)
+      → (checkFor v f ≡ Accepted n w)
+      ↔ ((n ≡ countOf f) × W-of (programOf f) w × Not1 f × Not2-4 v f × Not5 f × Not6 f × Not7 f × Not8 f)
+  accepted-in-words n w = (
+    λ e.
+        let c = not-refused n w .0 e in
+        (c .0, w-exactly v f (c .2) (c .5) w .1 (c .1), c .2, c .3, c .4, c .5, c .6, c .7),
+    λ c. not-refused n w .1 (c .0, w-exactly v f (c .2) (c .5) w .0 (c .1), c .2, c .3, c .4, c .5, c .6, c .7),
+  )
 
   -- the check refuses by 1 to 8 and no other number
   pub one-to-eight : (m k : ℕ) → checkFor v f ≡ Refused m k → (1 ≤ m) × (m ≤ 8)

@@ -6,9 +6,10 @@ use Rattle.ec20.specs.declared.Operand.{Operand}
 use Rattle.ec20.specs.declared.Place.{Place}
 use Rattle.ec20.specs.declared.Rec.{Rec}
 use Rattle.ec20.specs.Devices.{Device}
-use Rattle.ec20.specs.Operands.{allowed, inD, startOf, extentOf}
+use Rattle.ec20.specs.Operands.{inD, startOf, extentOf}
 use Rattle.ec20.specs.Table.{rowOf}
-use Rattle.ec20.specs.Roles.{isWritten, roleUnused}
+use Rattle.ec20.specs.Roles.{isWritten}
+use Rattle.refusals.specs.Admits.{Admits}
 
 -- 2: "unknown instruction or spare byte not 0"
 pub data Line2 (r : Rec) : Type 0 where
@@ -21,20 +22,9 @@ pub data Operand-at (r : Rec) : Place → Operand → Type 0 where
   second : Operand-at r (rowOf (r .number) .second) (r .second)
   third : Operand-at r (rowOf (r .number) .third) (r .third)
 
--- "Unused operands are six zeros."
-pub record Six-zeros (o : Operand) : Type 0 where
-  pub kind : o .kind ≡ 0
-  pub group : o .group ≡ 0
-  pub value : o .value ≡ 0
-
--- the operand o at the place p: "not as the table allows, or unused one not zero"
-pub data Wrong (v : Device) (p : Place) (o : Operand) : Type 0 where
-  not-allowed : (p .role ≡ roleUnused → ⊥) → allowed v p o ≡ false → Wrong v p o
-  not-zero : p .role ≡ roleUnused → (Six-zeros o → ⊥) → Wrong v p o
-
--- 3: "operand not as the table allows, or unused one not zero"
+-- 3: "operand not as the table allows, or unused one not zero": of an unused one it allows six zeros
 pub data Line3 (v : Device) (r : Rec) : Type 0 where
-  wrong : {p : Place} {o : Operand} → Operand-at r p o → Wrong v p o → Line3 v r
+  wrong : {p : Place} {o : Operand} → Operand-at r p o → (Admits v p o → ⊥) → Line3 v r
 
 -- word i is one of a target's extent: the place is written, and i is one of the operand's words in D
 pub record Target (p : Place) (o : Operand) (i : ℕ) : Type 0 where

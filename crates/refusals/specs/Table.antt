@@ -8,14 +8,13 @@ use Rattle.ec20.specs.declared.Verdict.the-variants.{Accepted, Refused}
 use Rattle.ec20.specs.Devices.{Device}
 use Rattle.ec20.specs.File.{countOf, recordsOf}
 use Rattle.ec20.specs.Code.{programOf}
-use Rattle.ec20.specs.Check.{wOf}
 use Rattle.refusals.specs.First.{First, Never}
 use Rattle.refusals.specs.Frame.{Line1}
 use Rattle.refusals.specs.Records.{Line2, Line3, Line4, Line2-4}
 use Rattle.refusals.specs.Rung.{Line5}
 use Rattle.refusals.specs.Structure.{Line6}
 use Rattle.refusals.specs.Labels.{Line7}
-use Rattle.refusals.specs.Steps.{Line8}
+use Rattle.refusals.specs.Steps.{W-of, Line8}
 
 -- record k of a file
 abbrev pub recordAt : List ℕ → ℕ → Rec
@@ -64,4 +63,4 @@ pub data Told (v : Device) (f : List ℕ) : Verdict → Type 0 where
   told-6 : {k : ℕ} → Not1 f → Not2-4 v f → Not5 f → First6 f k → Told v f (Refused 6 k)
   told-7 : {k : ℕ} → Not1 f → Not2-4 v f → Not5 f → Not6 f → First7 f k → Told v f (Refused 7 k)
   told-8 : Not1 f → Not2-4 v f → Not5 f → Not6 f → Not7 f → Line8 (programOf f) → Told v f (Refused 8 0)
-  accepted : Not1 f → Not2-4 v f → Not5 f → Not6 f → Not7 f → Not8 f → Told v f (Accepted (countOf f) (wOf (programOf f)))
+  accepted : {w : ℕ} → Not1 f → Not2-4 v f → Not5 f → Not6 f → Not7 f → Not8 f → W-of (programOf f) w → Told v f (Accepted (countOf f) w)
