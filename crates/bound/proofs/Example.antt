@@ -16,10 +16,10 @@ use Rattle.ec20.specs.Memory.{Memory, memory}
 use Rattle.ec20.specs.Scan.{runOf, startWorld, fitting, scanOf}
 use Rattle.ec20.proofs.Computing.{computing}
 use Rattle.ec20.proofs.Files.{X, Y, M, r0, r1, LD, FOR, NEXT, CJ, LBL, file, t9, blank}
-use Rattle.bound.specs.Scans.{EndsIn}
+use Rattle.bound.specs.Scans.{Quiet, EndsIn}
 use Rattle.bound.proofs.LabelRule.{label-rule}
 use Rattle.bound.proofs.Accepted.{accepted-right}
-use Rattle.bound.proofs.Theorem.{at-most-w, no-jumps, scan-of-ends}
+use Rattle.bound.proofs.Theorem.{at-most-w, due-inside, no-jumps, scan-of-ends}
 
 abbrev real : List ℕ
 real =
@@ -109,3 +109,6 @@ t9-straight (suc (suc (suc (suc (suc k))))) l h e = omega arith
 
 t9-steps : (e b : ℕ) (c : Memory) → 11 ≤ b → runOf (programOf t9) e b 0 (startWorld ec20 c) .steps ≡ 11
 t9-steps e b c h = no-jumps ec20 t9 5 11 t9-ok e c b h t9-straight
+
+pub t9-quiet : (e : ℕ) (c : Memory) → Quiet (programOf t9) e (startWorld ec20 c)
+t9-quiet e c = λ n l y. absurd (t9-straight _ l (due-inside ec20 t9 5 11 t9-ok e c n) y)

@@ -3,7 +3,7 @@ use Prim.Native.Nat.{ℕ, _≤_, _<_}
 use mathlib.Core.Bool.{Bool, true, false}
 use mathlib.Core.List.{List}
 use mathlib.Core.Logic.{inl, inr}
-use mathlib.Core.Path.{_≡_, refl, subst}
+use mathlib.Core.Path.{_≡_, refl, ap, subst}
 use native.Mathlib.Omega.{arith}
 use lib.Dec.{eqb}
 use lib.IntN.{pos}
@@ -20,16 +20,17 @@ use Rattle.ec20.specs.Devices.{Device, ec20}
 use Rattle.ec20.specs.Memory.{Memory}
 use Rattle.ec20.specs.Registers.{wordAt}
 use Rattle.ec20.specs.Scan.{Scan, Run, runOf, startWorld, answerOf, runScan, scanFor}
-use Rattle.bound.specs.Scans.{EndsIn}
-use Rattle.bound.proofs.Theorem.{at-most-w, due-inside, never-watchdog, scan-ends}
+use Rattle.bound.specs.Scans.{Quiet, EndsIn}
+use Rattle.bound.proofs.Example.{t9-quiet}
+use Rattle.bound.proofs.Theorem.{at-most-w, due-inside, never-watchdog, scan-ends, exactly-w}
 use Rattle.moving.proofs.Map.{map-kept}
 use Rattle.moving.proofs.Work.{work-kept}
-use Rattle.demands.specs.Demand2.{Reports, Scans, Demand2}
+use Rattle.demands.specs.Demand2.{Reports, EndsAfter, Scans, Demand2}
 use Rattle.demands.specs.Lines.{Not9}
 use Rattle.demands.specs.Steps.{afterSteps, reportOf}
 use Rattle.demands.proofs.Events.{events-work}
 use Rattle.demands.proofs.Lines.{fits-all}
-use Rattle.demands.proofs.Total.{each-sound}
+use Rattle.demands.proofs.Total.{each-sound, filled}
 use Rattle.demands.proofs.ScanAnswers.{says, scan-runs, scan-counted, fitting-true}
 
 -- what is reported is the run's
@@ -66,22 +67,30 @@ module _ (v : Device) (f : List ℕ) (n w : ℕ) (ok : checkFor v f ≡ Accepted
   never : w ≤ b → (r : Report) → scanFor v f e b c .answer ≡ Watchdog r → ⊥
   never h r q = never-watchdog v f n w ok e c b h r q
 
+  exact : Not9 v e c → w ≤ b → Quiet (programOf f) e (startWorld v c) → EndsAfter (scanFor v f e b c .answer) w
+  exact h l q =
+      let s = scan-ends v f n w ok e c b l (fitting-true v f e b c h) in
+      let told : run .steps ≡ s .report .steps = ap (λ (r : Report). r .steps) (report (s .report) (inl (s .answer))) in
+      let made : run .steps ≡ w = exactly-w v f n w ok e c b l q in
+      record { report = s .report; answer = s .answer; steps = omega arith }
+
 -- on every device
 pub scans-of : (v : Device) (f : List ℕ) (n w : ℕ) → checkFor v f ≡ Accepted n w → Scans v f n w
 scans-of v f n w ok = record {
   counted = λ e b c h. scan-counted v f e b c (n, w, ok) h;
-  total = λ e b c h j l. each-sound v f n w ok e c b (scanFor v f e b c) (scan-counted v f e b c (n, w, ok) h) j l;
+  total = λ e b c h j l. each-sound v f n w ok e c h b (scanFor v f e b c) (scan-counted v f e b c (n, w, ok) h) j l;
   stops-inside = within v f n w ok;
   at-most-w = few v f n w ok;
   w-is-enough = λ e b c h l. scan-ends v f n w ok e c b l (fitting-true v f e b c h);
   no-watchdog = never v f n w ok;
+  exactly-w = exact v f n w ok;
   work = λ e b c i h. work-kept v f n w ok i (h .from) e b c;
   unmarked = λ e b c i l h. map-kept v f n w ok i l h e b c;
 }
 
 pub demand-2 : (f : List ℕ) (n w : ℕ) → checkOf f ≡ Accepted n w → Demand2 f n w
 unfolding checkOf
-demand-2 f n w ok = record { scans = scans-of ec20 f n w ok; work-series = λ c es i h. events-work f n w ok i h c es }
+demand-2 f n w ok = record { scans = scans-of ec20 f n w ok; filled = filled; work-series = λ c es i h. events-work f n w ok i h c es }
 
 -- ---- and it is not for nothing: T9, FOR 3, LD SM0, INC D0, NEXT, END, on memory that is all zeros
 
@@ -98,6 +107,10 @@ fits = fits-all ec20 7 blank refl
 
 pub t9-enough : EndsIn (scanFor ec20 t9 7 11 blank .answer) 5 11
 t9-enough = t9-met .scans .w-is-enough 7 11 blank fits (omega arith)
+
+-- it has no CJ: just 11 steps
+pub t9-exact : EndsAfter (scanFor ec20 t9 7 100 blank .answer) 11
+t9-exact = t9-met .scans .exactly-w 7 100 blank fits (omega arith) (t9-quiet 7 blank)
 
 -- the budget of 11 is used and END was executed: D0 is 3
 pub t9-ends : (scanFor ec20 t9 7 11 blank .answer ≡ Ended (record { steps = 11; stop = 4; error = 0; at = 0 })) × (wordAt (scanFor ec20 t9 7 11 blank .mem .d) 0 ≡ pos 3)

@@ -2,7 +2,7 @@
 use Prim.Native.Nat.{ℕ}
 use mathlib.Core.List.{List}
 use mathlib.Core.Logic.{_⊎_, inl, inr}
-use mathlib.Core.Path.{_≡_, refl, sym, ap, subst, _∙_}
+use mathlib.Core.Path.{_≡_, refl, sym, ap, ap₂, subst, _∙_}
 use native.Mathlib.Omega.{arith}
 use lib.IntN.{ℤ}
 use Rattle.ec20.specs.declared.Exchanged.{Exchanged}
@@ -11,7 +11,7 @@ use Rattle.ec20.specs.declared.Judged.{Judged}
 use Rattle.ec20.specs.declared.Judged.the-variants.{Fine, Fault}
 use Rattle.ec20.specs.Basics.{then}
 use Rattle.ec20.specs.Devices.{Device}
-use Rattle.ec20.specs.Exchange.{sizeFault, placeFault, judgeExchange, exchangeIf, exchangeFor}
+use Rattle.ec20.specs.Exchange.{Exchange, exchanged, sizeFault, placeFault, judgeExchange, exchangeIf, exchangeFor}
 use Rattle.ec20.specs.Move.{Block, blockFault, blockWork}
 use Rattle.demands.specs.Demand1.{ExchangeNumbers}
 use Rattle.demands.specs.Lines.{Line10, Not10, Line12, Not12, Line9D, Line14D}
@@ -135,13 +135,40 @@ module _ (v : Device) (d : List ℤ) (b : Block) (q : ℕ) where
   unfolding exchangeFor
   kept m k e = kept-if (judgeExchange v d b q) m k e
 
-  pub exchange-numbers : ExchangeNumbers v d b q
+  done-if : (x : Judged) → exchangeIf x d b q .answer ≡ Done → exchangeIf x d b q .words ≡ exchanged b q d
+  done-if Fine e = refl
+  done-if (Fault n j) e = let z : _≡_ {A = ℕ} 0 1 = cc in absurd (omega arith)
+
+  exchange-done : exchangeFor v d b q .answer ≡ Done → exchangeFor v d b q .words ≡ exchanged b q d
+  unfolding exchangeFor
+  exchange-done e = done-if (judgeExchange v d b q) e
+
+  pub exchange-numbers : ExchangeNumbers v d b q (exchangeFor v d b q)
   exchange-numbers = record {
     nine = λ k. (λ e. says e .nine refl, λ c. answer (by-9 (c .1)) ∙ ap (Refused 9) (sym (c .0)));
     ten = λ k. (λ e. says e .ten refl, λ c. answer (by-10 (c .1) (c .2)) ∙ ap (Refused 10) (sym (c .0)));
     twelve = λ k. (λ e. says e .twelve refl, λ c. answer (by-12 (c .1) (c .2) (c .3)) ∙ ap (Refused 12) (sym (c .0)));
     fourteen = λ k. (λ e. says e .fourteen refl, λ c. answer (by-14 (c .1) (c .2) (c .3) (c .4)) ∙ ap (Refused 14) (sym (c .0)));
     done = (λ e. says e, λ c. answer (done (c .0) (c .1) (c .2) (c .3)));
+    exchanges = exchange-done;
     no-other = λ m k e. says e .no-other;
     unchanged = kept;
   }
+
+  -- what is told, an answer for which the lines hold is
+  module _ (x : Exchange) (n : ExchangeNumbers v d b q x) where
+    same-answer : {r : Exchanged} → Told r → x .answer ≡ r
+    same-answer (by-9 h) = n .nine 0 .1 (refl, h)
+    same-answer (by-10 f h) = n .ten 0 .1 (refl, f, h)
+    same-answer (by-12 f g h) = n .twelve 0 .1 (refl, f, g, h)
+    same-answer (by-14 f g h i) = n .fourteen 0 .1 (refl, f, g, h, i)
+    same-answer (done f g h i) = n .done .1 (f, g, h, i)
+
+    same-words : (r : Exchanged) → x .answer ≡ r → exchangeFor v d b q .answer ≡ r → x .words ≡ exchangeFor v d b q .words
+    same-words Done y z = n .exchanges y ∙ sym (exchange-done z)
+    same-words (Refused m k) y z = n .unchanged m k y ∙ sym (kept m k z)
+
+    pub exchange-only : x ≡ exchangeFor v d b q
+    exchange-only =
+        let a = same-answer told in
+        ap₂ (λ (r : Exchanged) (w : List ℤ). record { answer = r; words = w }) a (same-words (exchangeFor v d b q .answer) a refl)

@@ -11,7 +11,10 @@ pub mod ExchangeAnswers
 pub mod RequestAnswers
 -- Steps, counted out
 pub mod Counted
--- Flow and stacks: a byte as a stack, a step by the rung rule, a whole scan
+-- Operands: the lengths of the tables, what a record names
+pub mod Lengths
+pub mod Named
+-- Flow and stacks: a byte as a stack, a step by the rung rule; a whole scan
 pub mod Stacks
 pub mod Power
 pub mod Going

@@ -2,7 +2,7 @@
 use Prim.Native.Nat.{ℕ, _≤_}
 use mathlib.Core.List.{List}
 use mathlib.Core.Logic.{_⊎_, inl, inr}
-use mathlib.Core.Path.{_≡_, refl, sym, ap, subst, _∙_}
+use mathlib.Core.Path.{_≡_, refl, sym, ap, ap₂, subst, _∙_}
 use native.Mathlib.Omega.{arith}
 use Rattle.ec20.specs.declared.Found.{Found}
 use Rattle.ec20.specs.declared.Found.the-variants.{At, Nowhere}
@@ -16,7 +16,8 @@ use Rattle.ec20.specs.Basics.{then}
 use Rattle.ec20.specs.Check.{checkFor}
 use Rattle.ec20.specs.Devices.{Device}
 use Rattle.ec20.specs.File.{countOf, recordsOf}
-use Rattle.ec20.specs.Move.{Block, Pool, blockFault, poolFault, blockWork, splitFault, placeOf, judgeMove, moveTo, moveIf, moveAfter, moveFor}
+use Rattle.ec20.specs.Move.{Block, Pool, Move, move, movedFile, blockFault, poolFault, blockWork, splitFault, placeOf, judgeMove, moveTo, moveIf, moveAfter, moveFor}
+use Rattle.moved.proofs.Taken.{taken as found-taken}
 use Rattle.refusals.proofs.Refused.{one-to-eight}
 use Rattle.refusals.proofs.Search.{Judges, judged-fine, judged-fault}
 use Rattle.demands.specs.Demand1.{MoveNumbers}
@@ -213,7 +214,12 @@ module _ (v : Device) (f : List ℕ) (b : Block) (l : Pool) where
   unfolding moveFor
   move-kept m k e = kept-verdict (checkFor v f) m k e
 
-  pub move-numbers : MoveNumbers v f b l
+  move-moved : (q : ℕ) → moveFor v f b l .answer ≡ To q → moveFor v f b l .file ≡ movedFile b q f
+  move-moved q e =
+      let g = moveFor v f b l .file in
+      sym (found-taken v f b l q g (ap (λ (a : Moved). move a g) e) .file)
+
+  pub move-numbers : MoveNumbers v f b l (moveFor v f b l)
   move-numbers = record {
     one-to-eight = λ m k h. (λ e. says e .check h, λ e. answer (by-check e));
     ten = λ k. (λ e. says e .ten refl, λ c. answer (by-10 (c .1) (c .2)) ∙ ap (Refused 10) (sym (c .0)));
@@ -222,6 +228,25 @@ module _ (v : Device) (f : List ℕ) (b : Block) (l : Pool) where
     thirteen = λ k. (λ e. says e .thirteen refl, λ c. answer (by-13 (c .0) (c .1) (c .2) (c .3) (c .4)));
     fourteen = λ k. (λ e. says e .fourteen refl, λ c. answer (by-14 (c .1) (c .2)) ∙ ap (Refused 14) (sym (c .0)));
     place = λ q. (λ e. says e, λ c. answer (taken (c .0) (c .1)));
+    moved = move-moved;
     no-other = λ m k e. says e .no-other;
     unchanged = move-kept;
   }
+
+  -- what is told, an answer for which the lines hold is
+  module _ (m : Move) (n : MoveNumbers v f b l m) where
+    same-answer : {r : Moved} → Told r → m .answer ≡ r
+    same-answer (by-check {m = i} {k} e) = n .one-to-eight i k (omega (arith, one-to-eight v f i k e .1)) .1 e
+    same-answer (by-10 ok h) = n .ten 0 .1 (refl, ok, h)
+    same-answer (by-11 ok g h) = n .eleven 0 .1 (refl, ok, g, h)
+    same-answer (by-12 ok g h i) = n .twelve 0 .1 (refl, ok, g, h, i)
+    same-answer (by-13 {k} ok g h i j) = n .thirteen k .1 (ok, g, h, i, j)
+    same-answer (by-14 a h) = n .fourteen 0 .1 (refl, a, h)
+    same-answer (taken {q} a h) = n .place q .1 (a, h)
+
+    same-file : (r : Moved) → m .answer ≡ r → moveFor v f b l .answer ≡ r → m .file ≡ moveFor v f b l .file
+    same-file (To q) x y = n .moved q x ∙ sym (move-moved q y)
+    same-file (Refused i k) x y = n .unchanged i k x ∙ sym (move-kept i k y)
+
+    pub move-only : m ≡ moveFor v f b l
+    move-only = let a = same-answer told in ap₂ move a (same-file (moveFor v f b l .answer) a refl)

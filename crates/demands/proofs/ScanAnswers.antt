@@ -3,7 +3,7 @@ use Prim.Native.Nat.{ℕ, _≤_}
 use mathlib.Core.Bool.{Bool, true, false}
 use mathlib.Core.List.{List}
 use mathlib.Core.Logic.{inl, inr}
-use mathlib.Core.Path.{_≡_, refl, sym, ap, subst, _∙_}
+use mathlib.Core.Path.{_≡_, refl, sym, ap, ap₂, subst, _∙_}
 use native.Mathlib.Omega.{arith}
 use Rattle.ec20.specs.declared.Scanned.{Scanned}
 use Rattle.ec20.specs.declared.Scanned.the-variants.{Ended, Watchdog, Refused}
@@ -21,7 +21,7 @@ use Rattle.demands.specs.Demand1.{Ends, at-end, by-budget, refused, Scan
 use Rattle.demands.specs.Lines.{Accepts, Line9, Not9}
 use Rattle.demands.specs.Steps.{afterSteps, Answer, ended, watchdog, Counted}
 use Rattle.demands.proofs.Lines.{misfit, fits-all}
-use Rattle.demands.proofs.Counted.{counted}
+use Rattle.demands.proofs.Counted.{counted, one-scan}
 
 module _ (v : Device) (f : List ℕ) (e b : ℕ) (c : Memory) where
   -- what is told of a scan: refused, with the memory as it was, or a run that is counted
@@ -111,10 +111,21 @@ module _ (v : Device) (f : List ℕ) (e b : ℕ) (c : Memory) where
   unfolding scanFor
   scan-misfit ok n = rw (ok .2, fits-not n (fitting v e c) refl)
 
-  pub scan-numbers : ScanNumbers v f e b c
+  pub scan-numbers : ScanNumbers v f e b c (scanFor v f e b c)
   scan-numbers = record {
-    one-to-eight = λ m k h. (λ q. says q .check h, λ q. ap (λ (s : Scan). s .answer) (scan-unfit m k q));
+    one-to-eight = λ m k h. (λ q. says q .check (omega (arith, h)), λ q. ap (λ (s : Scan). s .answer) (scan-unfit m k q));
     nine = λ k. (λ q. says q .nine refl, λ q. ap (λ (s : Scan). s .answer) (scan-misfit (q .1) (q .2)) ∙ ap (Refused 9) (sym (q .0)));
     no-other = λ m k q. says q .no-other;
     unchanged = λ m k q. says q .kept;
+    runs = scan-counted;
   }
+
+  -- what is told, a scan for which the lines hold is
+  scan-same : {s t : Scan} → ScanNumbers v f e b c s → Told t → s ≡ t
+  scan-same n (by-check {m} {k} h) =
+      let a = n .one-to-eight m k (omega (arith, one-to-eight v f m k h .1)) .1 h in ap₂ scan a (n .unchanged m k a)
+  scan-same n (by-9 ok h) = let a = n .nine 0 .1 (refl, ok, h) in ap₂ scan a (n .unchanged 9 0 a)
+  scan-same n (runs ok h t) = one-scan v (programOf f) e c (n .runs ok h) t
+
+  pub scan-only : (s : Scan) → ScanNumbers v f e b c s → s ≡ scanFor v f e b c
+  scan-only s n = scan-same n told

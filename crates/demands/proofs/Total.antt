@@ -6,11 +6,13 @@ use mathlib.Core.Logic.{inl, inr}
 use mathlib.Core.Path.{_≡_, refl, subst}
 use native.Mathlib.Omega.{arith}
 use Rattle.ec20.proofs.Computing.{computing}
-use Rattle.ec20.proofs.Files.{Y, M, SM, L, r0, r1, file, blank}
+use Rattle.ec20.proofs.Files.{Y, M, SM, D, KM, L, r0, r1, r2, file, alone, blank}
+use Rattle.ec20.specs.declared.Instr.the-variants.{Word}
+use Rattle.ec20.specs.declared.Operand.{Operand}
 use Rattle.ec20.specs.declared.Verdict.the-variants.{Accepted}
 use Rattle.ec20.specs.Check.{checkFor}
-use Rattle.ec20.specs.Code.{Program, programOf}
-use Rattle.ec20.specs.Devices.{Device, ec20}
+use Rattle.ec20.specs.Code.{Program, noOperand, programOf}
+use Rattle.ec20.specs.Devices.{Device, ec20, kindM, kindD}
 use Rattle.ec20.specs.Memory.{Memory}
 use Rattle.ec20.specs.Rung.{keeps}
 use Rattle.ec20.specs.Scan.{Scan, startState}
@@ -18,11 +20,18 @@ use Rattle.ec20.specs.Step.{World}
 use Rattle.bound.specs.Safe.{Safe}
 use Rattle.bound.proofs.Theorem.{each-safe}
 use Rattle.refusals.specs.Rung.{rungAt}
+use Rattle.refusals.proofs.Keeps.{formed}
 use Rattle.refusals.proofs.Refused.{not-refused}
+use Rattle.refusals.proofs.Rung.{line-5}
+use Rattle.demands.specs.Lines.{Not9}
+use Rattle.demands.specs.Named.{Filled, OneWord, Named}
 use Rattle.demands.specs.Steps.{afterSteps, Counted}
 use Rattle.demands.specs.Total.{Sound}
 use Rattle.demands.proofs.Counted.{same-world}
 use Rattle.demands.proofs.Going.{Going, in-order, powered, step-going}
+use Rattle.demands.proofs.Lengths.{after-sizes}
+use Rattle.demands.proofs.Lines.{fits-all}
+use Rattle.demands.proofs.Named.{code-named}
 use Rattle.demands.proofs.Power.{fresh-follows}
 
 module _ (v : Device) (f : List ℕ) (n w : ℕ) (ok : checkFor v f ≡ Accepted n w) where
@@ -36,7 +45,7 @@ module _ (v : Device) (f : List ℕ) (n w : ℕ) (ok : checkFor v f ≡ Accepted
     where
       go : (t : Bool) → keeps (p .code k) (rungAt p k) ≡ t → t ≡ true
       go true e = refl
-      go false e = absurd (not-refused v f n w .0 ok .4 k h e)
+      go false e = absurd (not-refused v f n w .0 ok .4 k h (line-5 p (formed f) k e))
 
   module _ (e : ℕ) (c : Memory) where
     abbrev pub after : ℕ → World
@@ -65,14 +74,22 @@ module _ (v : Device) (f : List ℕ) (n w : ℕ) (ok : checkFor v f ≡ Accepted
         let now : after j .st .ended ≡ 0 = h j (omega arith) in
         step-going p kept (after j) (safe j before now) (going j before now) e z
 
-    pub sound : (j : ℕ) → Runs j → after j .st .ended ≡ 0 → Sound p (after j)
-    sound j h z =
-        let s = safe j h z in
-        record { safe = s; powered = powered p kept (after j .st) (s .inside) (going j h z .stand) }
+    module _ (fits : Not9 v e c) where
+      named : Filled v → (j : ℕ) → Named (after j .mem) (p .code (after j .st .pc))
+      named full j = code-named v full (after j .mem) (after-sizes v p e c fits j) f n w ok (after j .st .pc)
 
-    -- TOTAL: so it is before each step that a scan makes
-    pub each-sound : (b : ℕ) (s : Scan) (t : Counted v p e b c s) (j : ℕ) → j < t .steps → Sound p (after j)
-    each-sound b s t j l = sound j (λ i k. t .before i (omega arith)) (t .before j l)
+      pub sound : (j : ℕ) → Runs j → after j .st .ended ≡ 0 → Sound v p (after j)
+      sound j h z =
+          let s = safe j h z in
+          record { safe = s; powered = powered p kept (after j .st) (s .inside) (going j h z .stand); named = λ full. named full j }
+
+      -- TOTAL: so it is before each step that a scan makes
+      pub each-sound : (b : ℕ) (s : Scan) (t : Counted v p e b c s) (j : ℕ) → j < t .steps → Sound v p (after j)
+      each-sound b s t j l = sound j (λ i k. t .before i (omega arith)) (t .before j l)
+
+-- the EC20's bits fill their bytes
+pub filled : Filled ec20
+filled = record { x = refl; y = refl; m = refl; sm = refl; t = refl; flags = omega arith }
 
 -- ---- and it is not for nothing: LD SM0, MPS, LD M0, ANB, OUT Y0, MPP, OUT Y1, LD SM0, CJ 1, LD M1, LBL 1, END
 
@@ -97,6 +114,10 @@ sample-ok : checkFor ec20 sample ≡ Accepted 12 12
 unfolding computing
 sample-ok = refl
 
+fits : Not9 ec20 0 blank
+unfolding computing
+fits = fits-all ec20 0 blank refl
+
 -- three steps made
 three : (i : ℕ) → i < 3 → afterSteps ec20 (programOf sample) 0 blank i .st .ended ≡ 0
 unfolding computing afterSteps
@@ -110,8 +131,8 @@ unfolding computing afterSteps
 at-ANB = refl
 
 -- ANB is due: flow is present, and in record order there is an entry on each stack
-pub ANB-sound : Sound (programOf sample) (afterSteps ec20 (programOf sample) 0 blank 3)
-ANB-sound = sound ec20 sample 12 12 sample-ok 0 blank 3 three at-ANB
+pub ANB-sound : Sound ec20 (programOf sample) (afterSteps ec20 (programOf sample) 0 blank 3)
+ANB-sound = sound ec20 sample 12 12 sample-ok 0 blank fits 3 three at-ANB
 
 pub one-entry : (rungAt (programOf sample) 3 .blocks ≡ 1) × (rungAt (programOf sample) 3 .branches ≡ 1)
 unfolding computing rungAt
@@ -122,3 +143,29 @@ pub at-LBL : (afterSteps ec20 (programOf sample) 0 blank 9 .st .pc ≡ 10) × (a
     × (rungAt (programOf sample) 10 .present ≡ true)
 unfolding computing afterSteps rungAt
 at-LBL = (refl, refl, refl)
+
+-- ---- LD SM0, MOV D7999 to the group of 16 bits from M1984 on, END: the last word is read, the last bits are written
+
+abbrev last : List ℕ
+last = alone (r2 32 (D 7999) (KM 4 1984))
+
+last-ok : checkFor ec20 last ≡ Accepted 3 3
+unfolding computing
+last-ok = refl
+
+-- D7999, and 16 bits from M1984 on
+abbrev word : Operand
+word = record { kind = kindD; group = 0; value = 7999 }
+
+abbrev group : Operand
+group = record { kind = kindM; group = 4; value = 1984 }
+
+last-code : programOf last .code 1 ≡ Word 32 word noOperand group
+unfolding computing
+last-code = refl
+
+abbrev now : Memory
+now = afterSteps ec20 (programOf last) 0 blank 1 .mem
+
+pub last-named : OneWord 32 now word noOperand group
+last-named = subst (Named now) last-code (code-named ec20 filled now (after-sizes ec20 (programOf last) 0 blank fits 1) last 3 3 last-ok 1)

@@ -3,7 +3,8 @@
 pub mod Lines
 -- Steps of a scan, counted out
 pub mod Steps
--- Flow and stacks where a record is due
+-- Operands, and flow and stacks, where a record is due
+pub mod Named
 pub mod Total
 -- Scans and requests in any order
 pub mod Events

@@ -1,6 +1,6 @@
 -- The definitions are total: they say something of every record in every state, also where document 01 gives no meaning (an action where flow is
--- absent, a ninth entry on a stack, a FOR with no NEXT). What holds where a record of an accepted program is due, so that none of that is used.
--- Loops, jumps and the record due are Safe of the crate bound; flow and the two stacks of bits are here.
+-- absent, a ninth entry on a stack, a FOR with no NEXT, a word past the table). What holds where a record of an accepted program is due, so that none
+-- of that is used. Loops, jumps and the record due are Safe of the crate bound; operands are Named; flow and the two stacks of bits are here.
 use Prim.Native.Nat.{ℕ, _≤_, _<_, _^_}
 use mathlib.Core.Bool.{true, false}
 use mathlib.Core.Path.{_≡_}
@@ -10,13 +10,14 @@ use Rattle.ec20.specs.declared.Instr.the-variants.{Nop, Contact, Compare, Join,
 use Rattle.ec20.specs.declared.Machine.{Machine}
 use Rattle.ec20.specs.declared.Rung.{Rung}
 use Rattle.ec20.specs.Code.{Program}
-use Rattle.ec20.specs.Devices.{stackHolds}
+use Rattle.ec20.specs.Devices.{Device, stackHolds}
 use Rattle.ec20.specs.Flow.{absent, stackRoom, startsNow}
 use Rattle.ec20.specs.Mnemonics.{MPS}
 use Rattle.ec20.specs.Rung.{isLoad}
 use Rattle.ec20.specs.Step.{World}
 use Rattle.bound.specs.Safe.{Safe}
 use Rattle.refusals.specs.Rung.{rungAt}
+use Rattle.demands.specs.Named.{Filled, Named}
 
 -- flow is not absent
 abbrev pub Present : Machine → Type 0
@@ -65,8 +66,10 @@ pub record Powered (p : Program) (s : Machine) : Type 0 where
   pub branches : Holds (rungAt p (s .pc) .branches) (s .branches)
   pub needs : Needs (rungAt p (s .pc)) s (p .code (s .pc))
 
--- what is due has its meaning: each FOR finds its NEXT and each CJ its label, no ninth loop is opened and none closed that is not open, the record
--- due lies in the program; and flow and stacks are as it needs them
-pub record Sound (p : Program) (w : World) : Type 0 where
+-- what is due has its meaning, on a device v: each FOR finds its NEXT and each CJ its label, no ninth loop is opened and none closed that is not open,
+-- the record due lies in the program; flow and stacks are as it needs them; and, if the device's bits fill their bytes, all that it names lies in its
+-- table
+pub record Sound (v : Device) (p : Program) (w : World) : Type 0 where
   pub safe : Safe p w
   pub powered : Powered p (w .st)
+  pub named : Filled v → Named (w .mem) (p .code (w .st .pc))
