@@ -1,11 +1,14 @@
 // The memory as a file has it: 16,890 bytes. First the bits (X 32 bytes, Y 32, M 250, SM 32, T contacts 32), then 8,000 D words and 256 T
 // values of two bytes each, the low byte first.
-ghost use Rattle.image.specs.Image.{Filled, wordIn, byteOf, part, bitByte, imageByte};
+ghost use Prim.Native.Nat.{_/_, _<_};
+ghost use Rattle.image.specs.Image.{Filled, wordIn, byteOf, part, bitByte, imageByte, memoryOf, imageOf, Sizes, Word16};
 ghost use lib.ListN.{length};
 ghost use lib.IntN.{pos};
+ghost use lib.Signed.{mag};
 ghost use mathlib.Core.Path.{_≡_};
 ghost use Rattle.ec20.specs.File.{byteAt};
 ghost use Rattle.ec20.specs.Memory.{memory};
+ghost use Rattle.ec20.specs.Registers.{wordAt};
 
 // Byte i, 0 where there is none.
 fn byte_at(b: &[u8], i: usize) -> u8
@@ -24,9 +27,10 @@ fn word_in(b: &[u8], i: usize) -> i16
     0
 }
 
-// Byte i of the words, 0 where they are not there.
+// Byte i of the words, 0 where they are not there. The word has 16 bits.
 pub fn byte_of(d: &[i16], i: usize) -> u8
     ensures { λ r. ⌜ r ≡ byteOf (now (d .entry)) i ⌝ }
+    ensures { λ _. ⌜ mag (wordAt (now (d .entry)) (i / 2)) < 32768 ⌝ }
 {
     let u = ints::bits(words::word_at(d, i / 2), 65536);
     if i % 2 == 0 {
@@ -37,7 +41,7 @@ pub fn byte_of(d: &[i16], i: usize) -> u8
 }
 
 // A table of bytes from the bytes.
-fn fill_bytes(b: &[u8], to: &mut [u8])
+pub fn fill_bytes(b: &[u8], to: &mut [u8])
     ensures { λ _. ⌜ Filled 0 (length (now (to .entry))) (λ i. byteAt (now (b .entry)) i) (now (to .exit)) ⌝ }
 {
     let mut i = 0;
@@ -58,7 +62,8 @@ pub fn fill_words(b: &[u8], to: &mut [i16])
     }
 }
 
-// The tables from the bytes of a memory file, each entry of each table: its own bytes, 0 past them.
+// The tables from the bytes of a memory file, each entry of each table: its own bytes, 0 past them. Tables of a memory file's sizes are those that
+// the bytes mean, and no byte is lost in them.
 pub fn split(
     b: &[u8],
     x: &mut [u8],
@@ -77,6 +82,8 @@ pub fn split(
     ensures { λ _. ⌜ Filled 0 (length (now (t .entry))) (λ i. byteAt (part 346 32 (now (b .entry))) i) (now (t .exit)) ⌝ }
     ensures { λ _. ⌜ Filled (pos 0) (length (now (d .entry))) (λ i. wordIn (part 378 16000 (now (b .entry))) i) (now (d .exit)) ⌝ }
     ensures { λ _. ⌜ Filled (pos 0) (length (now (tv .entry))) (λ i. wordIn (part 16378 512 (now (b .entry))) i) (now (tv .exit)) ⌝ }
+    ensures { λ _. ⌜ (Sizes (memory (now (x .entry)) (now (y .entry)) (now (m .entry)) (now (sm .entry)) (now (t .entry)) (now (d .entry)) (now (tv .entry))) → memory (now (x .exit)) (now (y .exit)) (now (m .exit)) (now (sm .exit)) (now (t .exit)) (now (d .exit)) (now (tv .exit)) ≡ memoryOf (now (b .entry))) ⌝ }
+    ensures { λ _. ⌜ imageOf (memoryOf (now (b .entry))) ≡ now (b .entry) ⌝ }
 {
     fill_bytes(&b[0..32], x);
     fill_bytes(&b[32..64], y);
@@ -118,6 +125,7 @@ fn image_byte(
     i: usize,
 ) -> u8
     ensures { λ r. ⌜ r ≡ imageByte (memory (now (x .entry)) (now (y .entry)) (now (m .entry)) (now (sm .entry)) (now (t .entry)) (now (d .entry)) (now (tv .entry))) i ⌝ }
+    ensures { λ _. ⌜ Word16 (now (d .entry)) (now (tv .entry)) i ⌝ }
 {
     if i < 378 {
         return bit_byte(x, y, m, sm, t, i);
@@ -128,9 +136,11 @@ fn image_byte(
     byte_of(tv, i - 16378)
 }
 
-// The bytes of a memory file from the tables. What a table lacks is 0.
+// The bytes of a memory file from the tables. What a table lacks is 0. Nothing of tables of a memory file's sizes is lost in them.
 pub fn join(x: &[u8], y: &[u8], m: &[u8], sm: &[u8], t: &[u8], d: &[i16], tv: &[i16], b: &mut [u8])
     ensures { λ _. ⌜ Filled 0 (length (now (b .entry))) (λ i. imageByte (memory (now (x .entry)) (now (y .entry)) (now (m .entry)) (now (sm .entry)) (now (t .entry)) (now (d .entry)) (now (tv .entry))) i) (now (b .exit)) ⌝ }
+    ensures { λ _. ⌜ (length (now (b .entry)) ≡ 16890 → now (b .exit) ≡ imageOf (memory (now (x .entry)) (now (y .entry)) (now (m .entry)) (now (sm .entry)) (now (t .entry)) (now (d .entry)) (now (tv .entry)))) ⌝ }
+    ensures { λ _. ⌜ (length (now (b .entry)) ≡ 16890 → Sizes (memory (now (x .entry)) (now (y .entry)) (now (m .entry)) (now (sm .entry)) (now (t .entry)) (now (d .entry)) (now (tv .entry))) → memoryOf (now (b .exit)) ≡ memory (now (x .entry)) (now (y .entry)) (now (m .entry)) (now (sm .entry)) (now (t .entry)) (now (d .entry)) (now (tv .entry))) ⌝ }
 {
     let mut i = 0;
     while i < b.len() {

@@ -1,8 +1,16 @@
 // A Modbus request, answered over the bytes of a memory file.
+ghost use Prim.Native.Nat.{ℕ};
+ghost use Rattle.ec20.specs.Basics.{pick};
+ghost use Rattle.image.specs.Image.{memoryOf, imageOf};
+ghost use Rattle.memories.specs.Images.{answerIn};
+ghost use Rattle.modbus.specs.Answer.{answerOf};
+ghost use Rattle.modbus.specs.declared.Answered.the-variants.{Refused};
+ghost use lib.Dec.{eqb};
+ghost use mathlib.Core.Path.{_≡_};
 use crate::tables;
 use modbus::Answered;
 
-// A memory file of another size is lent as a D table with no word, which is refused by 9.
+// The request over the tables M and D of a memory file of so many bytes: one of another size is refused by 9.
 fn in_tables(
     m: &mut [u8],
     d: &mut [i16],
@@ -10,21 +18,33 @@ fn in_tables(
     station: u32,
     frame: &[u8],
     reply: &mut [u8],
-) -> Answered {
+) -> Answered
+    ensures { λ r. ⌜ record { answer = r; m = now (m .exit); d = now (d .exit); reply = now (reply .exit) } ≡ pick (eqb size 16890) (answerOf station (now (frame .entry)) (now (m .entry)) (now (d .entry)) (now (reply .entry))) (record { answer = Refused 9 0; m = now (m .entry); d = now (d .entry); reply = now (reply .entry) }) ⌝ }
+{
     if size == 16890 {
         return requests::answer(station, frame, m, d, reply);
     }
-    requests::answer(station, frame, m, &mut d[0..0], reply)
+    Answered::Refused {
+        number: 9,
+        record: 0,
+    }
 }
 
-// The frame at the station, over M and D of the image, which is then the memory after it. size: how many bytes the memory file has.
+// The frame at the station, over M and D of the image, which is then the memory after it. size: how many bytes the memory file has. A refused call
+// changes no byte.
 pub fn in_image(
     image: &mut [u8; 16890],
     size: usize,
     station: u32,
     frame: &[u8],
     reply: &mut [u8],
-) -> Answered {
+) -> Answered
+    ensures { λ r. ⌜ r ≡ answerIn size station (now (frame .entry)) (memoryOf (now (image .entry))) (now (reply .entry)) .answer ⌝ }
+    ensures { λ _. ⌜ memoryOf (now (image .exit)) ≡ answerIn size station (now (frame .entry)) (memoryOf (now (image .entry))) (now (reply .entry)) .mem ⌝ }
+    ensures { λ _. ⌜ now (image .exit) ≡ imageOf (answerIn size station (now (frame .entry)) (memoryOf (now (image .entry))) (now (reply .entry)) .mem) ⌝ }
+    ensures { λ r. ⌜ ((m k : ℕ) → r ≡ Refused m k → now (image .exit) ≡ now (image .entry)) ⌝ }
+    ensures { λ _. ⌜ now (reply .exit) ≡ answerIn size station (now (frame .entry)) (memoryOf (now (image .entry))) (now (reply .entry)) .reply ⌝ }
+{
     let mut x = tables::bits();
     let mut y = tables::bits();
     let mut m = tables::m_bits();

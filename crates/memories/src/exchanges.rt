@@ -1,4 +1,13 @@
 // An exchange of D words in the bytes of a memory file.
+ghost use Prim.Native.Nat.{ℕ};
+ghost use Rattle.ec20.specs.Basics.{pick};
+ghost use Rattle.ec20.specs.Exchange.{exchangeOf};
+ghost use Rattle.ec20.specs.Move.{block};
+ghost use Rattle.ec20.specs.declared.Exchanged.the-variants.{Refused};
+ghost use Rattle.image.specs.Image.{memoryOf, imageOf};
+ghost use Rattle.memories.specs.Images.{exchangeIn};
+ghost use lib.Dec.{eqb};
+ghost use mathlib.Core.Path.{_≡_};
 use crate::tables;
 use ec20::Exchanged;
 
@@ -9,16 +18,26 @@ pub struct Way {
     pub place: u32,
 }
 
-// A memory file of another size is lent as a D table with no word, which is refused by 9.
-fn in_words(d: &mut [i16], size: usize, w: Way) -> Exchanged {
+// The exchange in the table D of a memory file of so many bytes: one of another size is refused by 9.
+fn in_words(d: &mut [i16], size: usize, w: Way) -> Exchanged
+    ensures { λ r. ⌜ record { answer = r; words = now (d .exit) } ≡ pick (eqb size 16890) (exchangeOf (now (d .entry)) (block (w .start) (w .length)) (w .place)) (record { answer = Refused 9 0; words = now (d .entry) }) ⌝ }
+{
     if size == 16890 {
         return exchange::exchange(d, w.start, w.length, w.place);
     }
-    exchange::exchange(&mut d[0..0], w.start, w.length, w.place)
+    Exchanged::Refused {
+        number: 9,
+        record: 0,
+    }
 }
 
-// The exchange in the memory of the image, which is then the one after it. size: how many bytes the memory file has.
-pub fn in_image(image: &mut [u8; 16890], size: usize, w: Way) -> Exchanged {
+// The exchange in the memory of the image, which is then the one after it. size: how many bytes the memory file has. A refused one changes no byte.
+pub fn in_image(image: &mut [u8; 16890], size: usize, w: Way) -> Exchanged
+    ensures { λ r. ⌜ r ≡ exchangeIn size (block (w .start) (w .length)) (w .place) (memoryOf (now (image .entry))) .answer ⌝ }
+    ensures { λ _. ⌜ memoryOf (now (image .exit)) ≡ exchangeIn size (block (w .start) (w .length)) (w .place) (memoryOf (now (image .entry))) .mem ⌝ }
+    ensures { λ _. ⌜ now (image .exit) ≡ imageOf (exchangeIn size (block (w .start) (w .length)) (w .place) (memoryOf (now (image .entry))) .mem) ⌝ }
+    ensures { λ r. ⌜ ((m k : ℕ) → r ≡ Refused m k → now (image .exit) ≡ now (image .entry)) ⌝ }
+{
     let mut x = tables::bits();
     let mut y = tables::bits();
     let mut m = tables::m_bits();

@@ -1,5 +1,5 @@
 // Zeros for the tables of the memory and for its file. Each tells its length alone, so that no proof writes the zeros out.
-ghost use lib.ListN.{length};
+ghost use lib.ListN.{length, take};
 ghost use mathlib.Core.Path.{_≡_};
 
 pub fn image() -> [u8; 16890]
@@ -34,10 +34,8 @@ pub fn t_values() -> [i16; 256]
 }
 
 // A memory file as it was read: the bytes at the start of the buffer.
-pub fn start(buf: &[u8; 65536], image: &mut [u8; 16890]) {
-    let mut i: usize = 0;
-    while i < 16890 {
-        image[i] = buf[i];
-        i += 1;
-    }
+pub fn start(buf: &[u8; 65536], image: &mut [u8; 16890])
+    ensures { λ _. ⌜ now (image .exit) ≡ take 16890 (now (buf .entry)) ⌝ }
+{
+    image::fill_bytes(buf, image);
 }

@@ -1,7 +1,9 @@
 -- The low and the high byte of a word. Assumes nothing.
-use mathlib.Core.Path.{refl, ap, sym, _∙_}
+use mathlib.Core.Path.{ap, subst, _∙_}
 use native.Mathlib.Omega.{arith}
 use Prim.Native.Nat.{_/_, _%_, _<_, ℕ}
+use lib.IntN.{ℤ}
+use lib.Signed.{mag}
 use denote.Ref.{now}
 use lib.Dec.{lit<}
 use borrow.Author.Needs.{needs}
@@ -27,15 +29,19 @@ returns : tie.Need-returns
 unfolding byteOf
 returns c =
     let a = c .before .before .before .args in
-    let z = c .before .before .word-at in
-    rw (eq-eqb (a .i % 2) 0 (omega arith)) (ap (λ (u : ℕ). u % 256) (c .before .bits .ensures ∙ ap (low 65536) (said w64 (z .ok) (z .ensures .0))))
+    let z = c .before .before .word-at in (
+      rw (eq-eqb (a .i % 2) 0 (omega arith)) (ap (λ (u : ℕ). u % 256) (c .before .bits .ensures ∙ ap (low 65536) (said w64 (z .ok) (z .ensures .0)))),
+      subst (λ (v : ℤ). mag v < 32768) (z .ensures .0) (z .ensures .1),
+    )
 
 returns-2 : tie.Need-returns-2
 unfolding byteOf
 returns-2 c =
     let a = c .before .before .before .args in
-    let z = c .before .before .word-at in
-    rw (ne-eqb (a .i % 2) 0 (omega arith)) (ap (λ (u : ℕ). u / 256) (c .before .bits .ensures ∙ ap (low 65536) (said w64 (z .ok) (z .ensures .0))))
+    let z = c .before .before .word-at in (
+      rw (ne-eqb (a .i % 2) 0 (omega arith)) (ap (λ (u : ℕ). u / 256) (c .before .bits .ensures ∙ ap (low 65536) (said w64 (z .ok) (z .ensures .0)))),
+      subst (λ (v : ℤ). mag v < 32768) (z .ensures .0) (z .ensures .1),
+    )
 
 pub byte-of-spec : {M : Type 1} → statement M
 byte-of-spec = tie.close (tie.spec (λ c κs. search needs) (λ c κs. search needs) (λ c. search needs) cast-result-2 returns returns-2)

@@ -1,5 +1,8 @@
--- Each table as it was filled. Assumes nothing.
+-- Each table as it was filled, and what they are together. Assumes nothing.
+use native.Mathlib.Omega.{arith}
+use denote.Ref.{now}
 use borrow.Author.Needs.{needs}
+use Rattle.image.proofs.Inverse.{join-split, split-tables}
 use Rattle.image.proofs.split.Statement.{statement}
 use Rattle.image.proofs.split.Tie as tie
 
@@ -12,7 +15,11 @@ returns c =
     let m = sm .before .before .before .before .before in
     let y = m .before .before .before .before .before in
     let x = y .before .before .before .before .before in
-    (x .fill-bytes .ensures, (y .fill-bytes2 .ensures, (m .fill-bytes3 .ensures, (sm .fill-bytes4 .ensures, (t .fill-bytes5 .ensures, (d .fill-words .ensures, tv .fill-words2 .ensures))))))
+    let e = x .before .before .before .before .before .before .before .before in
+    let long = e .before .pre in
+    let back = join-split (now (e .before .args .b)) long (λ i. omega (arith, e .shared-slice-known .given i)) in
+    let tables = split-tables _ long (x .fill-bytes .ensures) (y .fill-bytes2 .ensures) (m .fill-bytes3 .ensures) (sm .fill-bytes4 .ensures) (t .fill-bytes5 .ensures) (d .fill-words .ensures) (tv .fill-words2 .ensures) in
+    (x .fill-bytes .ensures, (y .fill-bytes2 .ensures, (m .fill-bytes3 .ensures, (sm .fill-bytes4 .ensures, (t .fill-bytes5 .ensures, (d .fill-words .ensures, (tv .fill-words2 .ensures, (tables, back))))))))
 
 pub split-spec : {M : Type 1} → statement M
 split-spec =
