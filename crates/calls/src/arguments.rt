@@ -1,4 +1,6 @@
 // The arguments of the program as the words of a call, each ended by a zero byte.
+ghost use lib.ListN.{length};
+ghost use mathlib.Core.Path.{_≡_};
 
 // A word in the call from `at` on, where zeros are. Answers where the next one begins: past its zero byte.
 fn add(call: &mut [u8], at: usize, word: &[u8]) -> usize {
@@ -26,7 +28,9 @@ fn add_argument(call: &mut [u8], at: usize, i: usize) -> usize {
 }
 
 // All but the program's own name, in a buffer of zeros. Answers how long the call is; it fits where that is no more than the buffer holds.
-pub fn gather(call: &mut [u8]) -> usize {
+pub fn gather(call: &mut [u8]) -> usize
+    ensures { λ _. ⌜ length (now (call .exit)) ≡ length (now (call .entry)) ⌝ }
+{
     let count = os::arg_count();
     let mut n: usize = 0;
     let mut i: usize = 1;

@@ -1,4 +1,6 @@
 // Which command a call asks for.
+ghost use Rattle.calls.specs.Asked.{fitsOf, commandOf};
+ghost use mathlib.Core.Path.{_≡_};
 use crate::text;
 use check::same;
 
@@ -30,7 +32,9 @@ pub const NONE: usize = 11;
 pub const PICTURE: usize = 12;
 
 // Whether a call of so many words is one of the command.
-fn fits(command: usize, count: usize) -> bool {
+fn fits(command: usize, count: usize) -> bool
+    ensures { λ r. ⌜ r ≡ fitsOf command count ⌝ }
+{
     match command {
         0 => count == 2,
         1 => count == 2,
@@ -48,7 +52,9 @@ fn fits(command: usize, count: usize) -> bool {
 }
 
 // The command of a call, by its first word and how many there are.
-pub fn command(call: &[u8]) -> usize {
+pub fn command(call: &[u8]) -> usize
+    ensures { λ r. ⌜ r ≡ commandOf (now (call .entry)) ⌝ }
+{
     let command = text::which(
         text::word(call, 0),
         b"check\0map\0move\0exchange\0scan\0trial\0demo\0answer\0slave\0clashes\0longer\0",

@@ -1,5 +1,8 @@
 // Numbers in a call.
-ghost use Prim.Native.Nat.{_≤_};
+ghost use Prim.Native.Nat.{_≤_, _+_, _*_};
+ghost use Rattle.calls.specs.Numbers.{isNumber, numberOf, allNumbers, errAfter, digitOf, capped, parsedOf};
+ghost use Rattle.calls.specs.Text.{wordOf};
+ghost use mathlib.Core.Path.{_≡_};
 use crate::text;
 use crate::texts;
 
@@ -32,7 +35,7 @@ pub struct Number {
 
 // What a digit stands for; 10 for what is none.
 fn digit(b: u8) -> u64
-    ensures { λ r. ⌜ r ≤ 10 ⌝ }
+    ensures { λ r. ⌜ (r ≡ digitOf b) × (r ≤ 10) ⌝ }
 {
     if b < b'0' {
         return 10;
@@ -47,14 +50,16 @@ fn digit(b: u8) -> u64
 fn grown(n: u64, digit: u64) -> u64
     requires { ⌜ n ≤ 4294967296 ⌝ }
     requires { ⌜ digit ≤ 10 ⌝ }
-    ensures { λ r. ⌜ r ≤ 4294967296 ⌝ }
+    ensures { λ r. ⌜ (r ≡ capped (n * 10 + digit)) × (r ≤ 4294967296) ⌝ }
 {
     let m = n * 10 + digit;
     if m < 4294967296 { m } else { 4294967296 }
 }
 
 // What one decimal digit or more, and nothing else, stands for; 2 ^ 32 where it is no number or does not fit 32 bits.
-fn parsed(text: &[u8]) -> u64 {
+fn parsed(text: &[u8]) -> u64
+    ensures { λ r. ⌜ r ≡ parsedOf (now (text .entry)) ⌝ }
+{
     if text.len() == 0 {
         return 4294967296;
     }
@@ -72,7 +77,9 @@ fn parsed(text: &[u8]) -> u64 {
 }
 
 // The number that word i is. What is none is told by a text, with the name that the usage gives it.
-pub fn word(call: &[u8], i: usize, told: usize, err: i32) -> Number {
+pub fn word(call: &[u8], i: usize, told: usize, err: i32) -> Number
+    ensures { λ r. ⌜ (r .n ≡ numberOf (wordOf (now (call .entry)) i)) × (r .good ≡ isNumber (wordOf (now (call .entry)) i)) ⌝ }
+{
     let v = parsed(text::word(call, i));
     if v < 4294967296 {
         return Number {
@@ -85,7 +92,9 @@ pub fn word(call: &[u8], i: usize, told: usize, err: i32) -> Number {
 }
 
 // Where the next number of a call is told to be none: nowhere, where one before it was.
-pub fn err_after(good: bool, err: i32) -> i32 {
+pub fn err_after(good: bool, err: i32) -> i32
+    ensures { λ r. ⌜ r ≡ errAfter good err ⌝ }
+{
     if good { err } else { -1 }
 }
 
@@ -99,7 +108,11 @@ pub struct Asked {
 }
 
 // The words 2 to 5 of a call.
-pub fn block_and_pool(call: &[u8], err: i32) -> Asked {
+pub fn block_and_pool(call: &[u8], err: i32) -> Asked
+    ensures { λ r. ⌜ (r .start ≡ numberOf (wordOf (now (call .entry)) 2)) × (r .length ≡ numberOf (wordOf (now (call .entry)) 3)) ⌝ }
+    ensures { λ r. ⌜ (r .«pool_start» ≡ numberOf (wordOf (now (call .entry)) 4)) × (r .«pool_end» ≡ numberOf (wordOf (now (call .entry)) 5)) ⌝ }
+    ensures { λ r. ⌜ r .good ≡ allNumbers (now (call .entry)) ⌝ }
+{
     let start = word(call, 2, START, err);
     let length = word(call, 3, LENGTH, err_after(start.good, err));
     let two = start.good & length.good;

@@ -1,4 +1,7 @@
 // What came of a call.
+ghost use Rattle.calls.specs.Results.{statusBy};
+ghost use mathlib.Core.Bool.{false};
+ghost use mathlib.Core.Path.{_≡_};
 use crate::texts;
 
 // status: 0 answered, 1 refused or found to differ, 2 not tried or not told. replaced: whether a file was.
@@ -7,7 +10,9 @@ pub struct Outcome {
     pub replaced: bool,
 }
 
-pub fn not_tried() -> Outcome {
+pub fn not_tried() -> Outcome
+    ensures { λ r. ⌜ (r .status ≡ 2) × (r .replaced ≡ false) ⌝ }
+{
     Outcome {
         status: 2,
         replaced: false,
@@ -15,7 +20,9 @@ pub fn not_tried() -> Outcome {
 }
 
 // An answer went to `out`, which is -1 where not all of it was written; then that is told, and it counts for nothing.
-pub fn answered(status: usize, replaced: bool, out: i32, err: i32) -> Outcome {
+pub fn answered(status: usize, replaced: bool, out: i32, err: i32) -> Outcome
+    ensures { λ r. ⌜ (r .status ≡ statusBy out status) × (r .replaced ≡ replaced) ⌝ }
+{
     if out < 0 {
         texts::say(err, texts::LOST, 0, 0, 0, 0);
         return Outcome {

@@ -1,11 +1,13 @@
 // The bytes of a reply, each as two hexadecimal digits with a blank ahead.
-ghost use Prim.Native.Nat.{_≤_, _<_};
-ghost use lib.ListN.{length};
+ghost use Prim.Native.Nat.{_+_, _*_, _/_, _%_, _≤_, _<_, min};
+ghost use Rattle.telling.specs.Spelt.{hexDigit, Spelt};
+ghost use lib.ListN.{length, set};
 ghost use mathlib.Core.Path.{_≡_};
 use calls::texts;
 
 fn digit(v: u8) -> u8
     requires { ⌜ v < 16 ⌝ }
+    ensures { λ r. ⌜ r ≡ hexDigit v ⌝ }
 {
     if v < 10 { b'0' + v } else { b'a' + (v - 10) }
 }
@@ -19,6 +21,7 @@ fn blanks() -> [u8; 768]
 
 fn put_byte(text: &mut [u8; 768], i: usize, b: u8)
     requires { ⌜ i < 256 ⌝ }
+    ensures { λ _. ⌜ now (text .exit) ≡ set (set (now (text .entry)) (3 * i + 1) (hexDigit (b / 16))) (3 * i + 2) (hexDigit (b % 16)) ⌝ }
 {
     text[3 * i + 1] = digit(b / 16);
     text[3 * i + 2] = digit(b % 16);
@@ -26,13 +29,12 @@ fn put_byte(text: &mut [u8; 768], i: usize, b: u8)
 
 // The first n bytes of the reply.
 fn fill(reply: &[u8], n: usize, text: &mut [u8; 768])
-    requires { ⌜ n ≤ 256 ⌝ }
+    requires { ⌜ (n ≤ 256) × (n ≤ length (now reply)) × (768 ≡ length (now text)) ⌝ }
+    ensures { λ _. ⌜ Spelt (now (reply .entry)) n (now (text .entry)) (now (text .exit)) ⌝ }
 {
     let mut i: usize = 0;
     while i < n {
-        if i < reply.len() {
-            put_byte(text, i, reply[i]);
-        }
+        put_byte(text, i, reply[i]);
         i += 1;
     }
 }
@@ -50,15 +52,15 @@ fn put_bytes(to: i32, text: &[u8; 768], n: usize) -> i32
     put_part(to, text, 3 * n)
 }
 
-fn held(n: usize) -> usize
-    ensures { λ r. ⌜ r ≤ 256 ⌝ }
+fn least(a: usize, b: usize) -> usize
+    ensures { λ r. ⌜ r ≡ min a b ⌝ }
 {
-    if n < 256 { n } else { 256 }
+    if a < b { a } else { b }
 }
 
-// A line for the first n bytes of the reply, of 256 at most.
+// A line for the first n bytes of the reply, as many as it has and of 256 at most.
 pub fn show(out: i32, reply: &[u8], n: usize) -> i32 {
-    let n = held(n);
+    let n = least(least(n, 256), reply.len());
     let mut text = blanks();
     fill(reply, n, &mut text);
     let to = texts::say(out, texts::REPLY, 0, 0, 0, 0);

@@ -1,4 +1,7 @@
 // Answers and refusals: a line to `out`, and what a refusal means to `err`.
+ghost use Rattle.calls.specs.Results.{Answers};
+ghost use mathlib.Core.Bool.{true, false};
+ghost use mathlib.Core.Path.{_≡_};
 use crate::names;
 use crate::replies;
 use crate::spans;
@@ -7,29 +10,39 @@ use calls::results::Outcome;
 use calls::texts;
 use ec20::Report;
 
-pub fn accepted(records: usize, steps: usize, out: i32, err: i32) -> Outcome {
+pub fn accepted(records: usize, steps: usize, out: i32, err: i32) -> Outcome
+    ensures { λ r. ⌜ Answers 0 false r ⌝ }
+{
     let to = texts::say(out, texts::ACCEPTED, records, steps, 0, 0);
     results::answered(0, false, to, err)
 }
 
 // A scan that ended, or was stopped by the watchdog, and whose memory was written. how: the text for it.
-pub fn scanned(how: usize, r: Report, out: i32, err: i32) -> Outcome {
+pub fn scanned(how: usize, r: Report, out: i32, err: i32) -> Outcome
+    ensures { λ o. ⌜ Answers 0 true o ⌝ }
+{
     let to = texts::say(out, how, r.steps, r.stop, r.error, r.at);
     results::answered(0, true, to, err)
 }
 
-pub fn moved(start: usize, length: usize, place: usize, out: i32, err: i32) -> Outcome {
+pub fn moved(start: usize, length: usize, place: usize, out: i32, err: i32) -> Outcome
+    ensures { λ r. ⌜ Answers 0 true r ⌝ }
+{
     let to = spans::say_both(out, texts::MOVED, start, place, length);
     results::answered(0, true, to, err)
 }
 
-pub fn exchanged(start: usize, length: usize, place: usize, out: i32, err: i32) -> Outcome {
+pub fn exchanged(start: usize, length: usize, place: usize, out: i32, err: i32) -> Outcome
+    ensures { λ r. ⌜ Answers 0 true r ⌝ }
+{
     let to = spans::say_both(out, texts::EXCHANGED, start, place, length);
     results::answered(0, true, to, err)
 }
 
 // A request was answered by the first n bytes of the reply; by none, where n is 0. replaced: whether it changed the memory, which was written.
-pub fn answered(reply: &[u8], n: usize, replaced: bool, out: i32, err: i32) -> Outcome {
+pub fn answered(reply: &[u8], n: usize, replaced: bool, out: i32, err: i32) -> Outcome
+    ensures { λ r. ⌜ Answers 0 replaced r ⌝ }
+{
     if n == 0 {
         let to = texts::say(out, texts::SILENT, 0, 0, 0, 0);
         return results::answered(0, replaced, to, err);
@@ -63,7 +76,9 @@ pub fn refused(
     record: usize,
     out: i32,
     err: i32,
-) -> Outcome {
+) -> Outcome
+    ensures { λ r. ⌜ Answers 1 false r ⌝ }
+{
     let to = texts::say(out, texts::REFUSED, number, record, 0, 0);
     let outcome = results::answered(1, false, to, err);
     let to = place(texts::put(err, path), file, number, record);
@@ -73,7 +88,9 @@ pub fn refused(
 
 // Of an exchange, or of a request. The place of an exchange is named in the call, so that its 14 means another thing, and neither takes elapsed
 // units.
-pub fn refused_memory(path: &[u8], number: usize, record: usize, out: i32, err: i32) -> Outcome {
+pub fn refused_memory(path: &[u8], number: usize, record: usize, out: i32, err: i32) -> Outcome
+    ensures { λ r. ⌜ Answers 1 false r ⌝ }
+{
     let to = texts::say(out, texts::REFUSED, number, record, 0, 0);
     let outcome = results::answered(1, false, to, err);
     let to = texts::put(err, path);
@@ -96,7 +113,9 @@ pub fn torn(to: i32, file: &[u8], number: usize, record: usize) -> i32 {
     texts::say(to, texts::TORN_APART, 0, 0, 0, 0)
 }
 
-pub fn usage(err: i32) -> Outcome {
+pub fn usage(err: i32) -> Outcome
+    ensures { λ r. ⌜ (r .status ≡ 2) × (r .replaced ≡ false) ⌝ }
+{
     texts::say(err, texts::USAGE, 0, 0, 0, 0);
     results::not_tried()
 }

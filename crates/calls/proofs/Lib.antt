@@ -1,0 +1,5 @@
+pub mod Words
+pub mod Digits
+mod Commands
+pub mod Statuses
+mod Computed

@@ -1,0 +1,4 @@
+pub mod Text
+pub mod Numbers
+pub mod Asked
+pub mod Results

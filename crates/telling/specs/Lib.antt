@@ -1,0 +1,4 @@
+pub mod Spans
+pub mod Picture
+pub mod Spelt
+pub mod Named
