@@ -1,86 +1,107 @@
 // Memories made by a rule and a seed: so many bytes of bits, then words of two bytes.
-use crate::bytes::put;
+ghost use Prim.Native.Nat.{_-_, _%_};
+ghost use lib.Dec.{eqb};
+ghost use lib.ListN.{length};
+ghost use mathlib.Core.Path.{_≡_};
+ghost use Rattle.ec20.specs.Basics.{pick};
+ghost use Rattle.cases.specs.Drawn.{risenBytes, turnedOf, drawOf, wordOf, byteBy, drawnBytes, filledBy};
 
 // The first byte v, and each other so much more than the one before it.
-fn rising(b: &mut [u8], first: u8, by: u8) {
-    let n = b.len();
+fn rising(b: &mut [u8], first: u8, by: u8)
+    ensures { λ _. ⌜ now (b .exit) ≡ risenBytes (length (now (b .entry))) first by ⌝ }
+{
     let mut v = first;
-    let mut i: usize = 0;
-    while i < n {
-        put(b, i, v);
+    let mut i = 0;
+    while i < b.len() {
+        b[i] = v;
         v = std::num::wrapping_add_u8(v, by);
         i += 1;
     }
 }
 
 // The state after a draw, and what is drawn.
-fn turned(x: u32) -> u32 {
+fn turned(x: u32) -> u32
+    ensures { λ r. ⌜ r ≡ turnedOf x ⌝ }
+{
     ((x as u64 * 1664525 + 1013904223) % 4294967296) as u32
 }
 
-fn drawn(x: u32) -> u8 {
+fn drawn(x: u32) -> u8
+    ensures { λ r. ⌜ r ≡ drawOf x ⌝ }
+{
     (x / 16777216) as u8
 }
 
-// One draw for each of the first n bytes. Answers the state after them.
-fn draw_bytes(b: &mut [u8], n: usize, seed: u32) -> u32 {
-    let mut x = seed;
-    let mut i: usize = 0;
-    while i < n {
-        x = turned(x);
-        put(b, i, drawn(x));
-        i += 1;
+// The bits of a word for what was drawn: (draw mod 16) - 4, or an edge.
+fn word(rule: u8, draw: u8) -> u16
+    ensures { λ r. ⌜ r ≡ wordOf rule draw ⌝ }
+{
+    if rule == 3 {
+        return std::num::wrapping_add_u16((draw % 16) as u16, 65532);
+    }
+    let edges = [0u16, 1, 65535, 32767, 32768, 2, 1000, 34464];
+    edges[(draw % 8) as usize]
+}
+
+// How far byte i lies past the bytes of bits.
+fn past(i: usize, bits: usize) -> usize
+    ensures { λ r. ⌜ r ≡ i - bits ⌝ }
+{
+    if bits < i { i - bits } else { 0 }
+}
+
+// The state for byte i, after the one for the byte before it. The second byte of a word has no draw of its own.
+fn next(x: u32, bits: usize, i: usize) -> u32
+    ensures { λ r. ⌜ r ≡ pick (eqb ((i - bits) % 2) 0) (turnedOf x) x ⌝ }
+{
+    if past(i, bits) % 2 == 0 {
+        return turned(x);
     }
     x
 }
 
-// The bits of a word for what was drawn: (draw mod 16) - 4, or an edge.
-fn word(rule: u8, draw: u8) -> u16 {
-    if rule == 3 {
-        return std::num::wrapping_sub_u16((draw % 16) as u16, 4);
+// Byte i, for which x was drawn.
+fn byte(rule: u8, bits: usize, i: usize, x: u32) -> u8
+    ensures { λ r. ⌜ r ≡ byteBy rule bits i x ⌝ }
+{
+    let draw = drawn(x);
+    if i < bits {
+        return draw;
     }
-    match draw % 8 {
-        0 => 0,
-        1 => 1,
-        2 => 65535,
-        3 => 32767,
-        4 => 32768,
-        5 => 2,
-        6 => 1000,
-        _ => 34464,
+    let w = word(rule, draw);
+    if past(i, bits) % 2 == 0 {
+        return (w % 256) as u8;
     }
+    (w / 256) as u8
 }
 
-// One draw for each word from byte `first` on.
-fn draw_words(b: &mut [u8], first: u16, rule: u8, seed: u32) {
-    let n = b.len() / 2;
-    let mut at = first as usize;
+// One draw for each of the bytes of bits, then one for each word.
+fn draw(b: &mut [u8], bits: usize, rule: u8, seed: u32)
+    ensures { λ _. ⌜ now (b .exit) ≡ drawnBytes (length (now (b .entry))) bits rule seed ⌝ }
+{
     let mut x = seed;
-    let mut i: usize = 0;
-    while i < n {
-        x = turned(x);
-        let w = word(rule, drawn(x));
-        put(b, at, (w % 256) as u8);
-        put(b, std::num::wrapping_add_usize(at, 1), (w / 256) as u8);
-        at = std::num::wrapping_add_usize(at, 2);
+    let mut i = 0;
+    while i < b.len() {
+        x = next(x, bits, i);
+        b[i] = byte(rule, bits, i, x);
         i += 1;
     }
 }
 
 // The rules 0 to 5. Any other, as rule 6, leaves the bytes as they are.
-pub fn fill(b: &mut [u8], bits: u16, rule: u8, seed: u32) {
+pub fn fill(b: &mut [u8], bits: u16, rule: u8, seed: u32)
+    ensures { λ _. ⌜ now (b .exit) ≡ filledBy rule bits seed (now (b .entry)) ⌝ }
+{
+    if rule > 5 {
+        return;
+    }
+    let n = b.len();
     match rule {
         0 => rising(b, 0, 0),
         1 => rising(b, 255, 0),
-        2 => {
-            let n = b.len();
-            draw_bytes(b, n, seed);
-        }
-        3 | 5 => {
-            let x = draw_bytes(b, bits as usize, seed);
-            draw_words(b, bits, rule, x);
-        }
+        2 => draw(b, n, 2, seed),
+        3 => draw(b, bits as usize, 3, seed),
         4 => rising(b, (seed % 256) as u8, 37),
-        _ => {}
+        _ => draw(b, bits as usize, 5, seed),
     }
 }

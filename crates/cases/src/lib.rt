@@ -1,6 +1,6 @@
-// What the programs on case files share (reference/FORMAT.md): how a case file is read, memories made by rule, bytes compared and summed, what
-// is counted and printed. Nothing is promised beyond safety, for these programs only compare.
-pub mod bytes;
+// What the programs on case files share (reference/FORMAT.md): how a case file is read, memories made by rule, bytes copied and summed, what is
+// counted and printed. What is computed is promised by the definitions of specs/. What is read from a file, and what is printed, no contract can say.
 pub mod drawing;
+pub mod octets;
 pub mod reading;
 pub mod told;

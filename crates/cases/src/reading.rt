@@ -24,7 +24,9 @@ pub fn u32_from(fd: i32) -> usize
 }
 
 // How many cases the file says that there are; none where it is no case file of this kind.
-pub fn head(fd: i32, kind: usize) -> usize {
+pub fn head(fd: i32, kind: usize) -> usize
+    ensures { λ r. ⌜ r < 2 ^ 32 ⌝ }
+{
     let mut h = [0u8; 12];
     let got = io::read_full(fd, &mut h);
     let named = (h[0] == b'N') & (h[1] == b'H') & (h[2] == b'V') & (h[3] == b'1');
@@ -41,7 +43,9 @@ fn read_part(fd: i32, file: &mut [u8], n: usize) {
 }
 
 // The file field: the bytes of a file, or the one of the case before, which was so long. No file in a case is longer than the buffer.
-pub fn file_field(fd: i32, file: &mut [u8; 65536], size: usize) -> usize {
+pub fn file_field(fd: i32, file: &mut [u8; 65536], size: usize) -> usize
+    ensures { λ r. ⌜ (size ≤ 65536 → r ≤ 65536) ⌝ }
+{
     let n = u32_from(fd);
     if n > 65536 {
         return size;

@@ -1,8 +1,12 @@
 // What is counted, and what is printed.
+ghost use mathlib.Core.Path.{_≡_};
+ghost use Rattle.cases.specs.Filled.{oneMore};
 use libc::STDOUT_FILENO;
 
 // One more of the cases of number k.
-pub fn one_more(met: &mut [usize], k: usize) {
+pub fn one_more(met: &mut [usize], k: usize)
+    ensures { λ _. ⌜ now (met .exit) ≡ oneMore k (now (met .entry)) ⌝ }
+{
     if k < met.len() {
         met[k] = std::num::wrapping_add_usize(met[k], 1);
     }

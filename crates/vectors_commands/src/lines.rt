@@ -1,28 +1,37 @@
 // Lines of the list of calls.
+ghost use lib.ListN.{length};
+ghost use mathlib.Core.Path.{_≡_};
+ghost use Rattle.ec20.specs.File.{byteAt};
+ghost use Rattle.vectors_commands.specs.Called.{isCall, letterOf, callOf};
 
 // What is no remark and not empty.
-pub fn is_call(text: &[u8]) -> bool {
+pub fn is_call(text: &[u8]) -> bool
+    ensures { λ r. ⌜ r ≡ isCall (now (text .entry)) ⌝ }
+{
     if text.len() == 0 {
         return false;
     }
     text[0] != b'#'
 }
 
-fn letter(b: u8) -> u8 {
+// Byte i as the call has it: a blank, and what stands past the line, as the zero byte that ends a word.
+fn letter(text: &[u8], i: usize) -> u8
+    ensures { λ r. ⌜ r ≡ letterOf (byteAt (now (text .entry)) i) ⌝ }
+{
+    if i >= text.len() {
+        return 0;
+    }
+    let b = text[i];
     if b == b' ' { 0 } else { b }
 }
 
-fn put(call: &mut [u8], i: usize, b: u8) {
-    if i < call.len() {
-        call[i] = b;
-    }
-}
-
-// Each blank as the zero byte that ends a word. The call is handed over as zeros, so that one follows the last word.
-pub fn to_call(text: &[u8], call: &mut [u8]) {
-    let mut i: usize = 0;
-    while i < text.len() {
-        put(call, i, letter(text[i]));
+// Each blank as the zero byte that ends a word, and zeros after the last word.
+pub fn to_call(text: &[u8], call: &mut [u8])
+    ensures { λ _. ⌜ now (call .exit) ≡ callOf (now (text .entry)) (length (now (call .entry))) ⌝ }
+{
+    let mut i = 0;
+    while i < call.len() {
+        call[i] = letter(text, i);
         i += 1;
     }
 }

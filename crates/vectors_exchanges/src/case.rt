@@ -1,8 +1,8 @@
 // A case: how the D table is made, block and place, what is wanted.
 ghost use lib.ListN.{length};
 ghost use mathlib.Core.Path.{_≡_};
-use cases::bytes;
 use cases::drawing;
+use cases::octets;
 use cases::reading;
 use ec20::Exchanged;
 
@@ -75,7 +75,7 @@ fn bytes_of(d: &[i16], b: &mut [u8]) {
     let n = b.len();
     let mut i: usize = 0;
     while i < n {
-        bytes::put(b, i, image::byte_of(d, i));
+        octets::put(b, i, image::byte_of(d, i));
         i += 1;
     }
 }
@@ -86,7 +86,7 @@ fn agrees(a: Asked, want: Wanted, d: &mut [i16], b: &mut [u8]) -> bool {
     image::fill_words(b, d);
     let e = exchange::exchange(d, a.start, a.length, a.place);
     bytes_of(d, b);
-    same(e, want.number) & (bytes::checksum(b) == want.sum)
+    same(e, want.number) & (octets::checksum(b) == want.sum)
 }
 
 // No case lends more than 8,192 words.

@@ -1,6 +1,6 @@
 // A case of 64 bytes: a group of bits, or a single bit, is read from a table of 20 bytes, and then a number is stored there.
+use crate::leaf::Case;
 use crate::number;
-use crate::told::Case;
 use records::u16_at;
 use records::u32_at;
 

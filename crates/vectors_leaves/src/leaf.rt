@@ -1,9 +1,15 @@
 // A case of 32 bytes: a word instruction on values, or a pair of D words.
 use crate::number;
 use crate::outcome;
-use crate::told::Case;
 use ec20::Outcome;
 use records::u32_at;
+
+// What came of a case.
+pub enum Case {
+    Agrees,
+    Differs,
+    Cut,
+}
 
 // The number of the instruction op at width w.
 fn instruction(op: usize, w: usize) -> usize {

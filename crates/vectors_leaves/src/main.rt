@@ -4,9 +4,11 @@ mod group;
 mod leaf;
 mod number;
 mod outcome;
-mod told;
 
-use told::Case;
+use cases::reading;
+use cases::told;
+use leaf::Case;
+use libc::STDOUT_FILENO;
 
 // How many cases the file says that there are.
 enum Count {
@@ -46,6 +48,37 @@ fn next(fd: i32, leaves: bool) -> Case {
     }
 }
 
+fn say(text: &[u8]) {
+    io::write_all(STDOUT_FILENO, text);
+}
+
+fn differs(leaves: bool, i: usize, others: usize) {
+    if leaves {
+        told::differs(b"leaf", i, others);
+    } else {
+        told::differs(b"group", i, others);
+    }
+}
+
+fn total(leaves: bool, agree: usize, differ: usize) {
+    if leaves {
+        told::total(b"leaves", agree, differ);
+    } else {
+        told::total(b"groups", agree, differ);
+    }
+}
+
+// The file ends in case i.
+fn cut(leaves: bool, i: usize) {
+    if leaves {
+        say(b"the file ends in leaf ");
+    } else {
+        say(b"the file ends in group ");
+    }
+    io::print_decimal(STDOUT_FILENO, i as u64);
+    say(b"\n");
+}
+
 // The n cases of a section. The answer is false where the file ends before the last.
 fn section(fd: i32, leaves: bool, n: usize) -> bool {
     let mut i: usize = 0;
@@ -54,34 +87,28 @@ fn section(fd: i32, leaves: bool, n: usize) -> bool {
         match next(fd, leaves) {
             Case::Agrees => {}
             Case::Differs => {
-                told::differs(leaves, i, differ);
+                differs(leaves, i, differ);
                 differ += 1;
             }
             Case::Cut => {
-                told::cut(leaves, i);
+                cut(leaves, i);
                 return false;
             }
         }
         i += 1;
     }
-    told::total(leaves, i - differ, differ);
+    total(leaves, i - differ, differ);
     true
-}
-
-// Whether nothing follows in the file.
-fn at_end(fd: i32) -> bool {
-    let mut one = [0u8; 1];
-    io::read_full(fd, &mut one) == 0
 }
 
 fn second_section(fd: i32) {
     match groups(fd) {
         Count::Of(n) => {
             if section(fd, false, n) {
-                told::ended(at_end(fd));
+                told::ended(reading::at_end(fd));
             }
         }
-        Count::Wrong => told::cut(false, 0),
+        Count::Wrong => cut(false, 0),
     }
 }
 
@@ -92,7 +119,7 @@ fn run(fd: i32) {
                 second_section(fd);
             }
         }
-        Count::Wrong => told::wrong_head(),
+        Count::Wrong => say(b"the file has another head\n"),
     }
 }
 

@@ -1,7 +1,6 @@
 // A case: the file, what is wanted.
 ghost use lib.ListN.{length};
 ghost use mathlib.Core.Path.{_≡_};
-use cases::bytes;
 use cases::reading;
 
 // What came of a case: whether the map is the one wanted, and the number of refusal that is wanted, 0 for accepted.
@@ -53,8 +52,8 @@ fn agrees(
     let m = usemap::use_map(file);
     (m.number == number)
         & (m.at == record)
-        & bytes::same(&m.read, read)
-        & bytes::same(&m.written, written)
+        & check::same(&m.read, read)
+        & check::same(&m.written, written)
 }
 
 fn part_agrees(

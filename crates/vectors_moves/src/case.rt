@@ -1,5 +1,5 @@
 // A case: the file, block and pool, what is wanted.
-use cases::bytes;
+use cases::octets;
 use cases::reading;
 use ec20::Moved;
 
@@ -62,7 +62,7 @@ fn change(fd: i32, file: &mut [u8]) {
     let mut i: usize = 0;
     while i < n {
         let at = reading::u32_from(fd);
-        bytes::put(file, at, reading::u8_from(fd));
+        octets::put(file, at, reading::u8_from(fd));
         i += 1;
     }
 }
@@ -82,12 +82,12 @@ pub fn next(fd: i32, file: &[u8; 65536], n: usize) -> Judged {
     let a = read_asked(fd);
     let want = read_wanted(fd);
     let mut left = io::large_buffer();
-    bytes::copy(file, &mut left);
+    octets::copy(file, &mut left);
     let mut after = io::large_buffer();
-    bytes::copy(file, &mut after);
+    octets::copy(file, &mut after);
     change(fd, &mut after);
     let answered = answer_agrees(&mut left, n, a, want);
-    let kept = bytes::same(&left, &after);
+    let kept = check::same(&left, &after);
     Judged {
         agrees: answered & kept,
         number: want.number,

@@ -1,11 +1,12 @@
 // A case: what is asked, the frame, what is wanted.
-ghost use Prim.Native.Nat.{_≤_};
 use crate::before;
 use crate::counts;
 use crate::judge;
 use crate::judge::Wanted;
 use crate::tables;
 use cases::drawing;
+use cases::octets;
+use cases::octets::least;
 use cases::reading;
 
 // Rule and seed of the tables, own station, and how much of M, D, the reply buffer and the frame is lent.
@@ -46,7 +47,7 @@ fn read_asked(fd: i32) -> Asked {
     }
 }
 
-// The call over what is lent.
+// The call over what is lent: its answer, the bytes of M that were lent, and the whole reply buffer.
 fn called(
     own: u32,
     seed: u32,
@@ -58,16 +59,11 @@ fn called(
 ) -> Judged {
     drawing::fill(reply, 0, 4, seed);
     let a = requests::answer(own, f, m, d, reply);
+    let sums = (octets::checksum(m) == w.m_sum) & (octets::checksum(reply) == w.reply_sum);
     Judged {
-        agrees: judge::agrees(a, w, m, reply),
+        agrees: judge::same_answer(a, w) & sums,
         sort: counts::sort(a, reply),
     }
-}
-
-fn least(a: usize, b: usize) -> usize
-    ensures { λ r. ⌜ r ≤ b ⌝ }
-{
-    if a <= b { a } else { b }
 }
 
 // No case lends more than there is.

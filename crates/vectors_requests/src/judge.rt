@@ -1,5 +1,7 @@
 // What is wanted of a call, and whether it gave that.
-use cases::bytes;
+ghost use mathlib.Core.Bool.{true};
+ghost use mathlib.Core.Path.{_≡_};
+ghost use Rattle.vectors_requests.specs.Wants.{wants};
 use cases::reading;
 use modbus::Answered;
 
@@ -45,7 +47,9 @@ pub fn changes(fd: i32, e: &mut [i16]) {
     }
 }
 
-pub fn same_words(d: &[i16], e: &[i16]) -> bool {
+pub fn same_words(d: &[i16], e: &[i16]) -> bool
+    ensures { λ r. ⌜ (r ≡ true → now (d .entry) ≡ now (e .entry)) × (now (d .entry) ≡ now (e .entry) → r ≡ true) ⌝ }
+{
     if d.len() != e.len() {
         return false;
     }
@@ -60,7 +64,9 @@ pub fn same_words(d: &[i16], e: &[i16]) -> bool {
 }
 
 // The record told is always 0.
-fn same_answer(a: Answered, w: Wanted) -> bool {
+pub fn same_answer(a: Answered, w: Wanted) -> bool
+    ensures { λ r. ⌜ r ≡ wants w a ⌝ }
+{
     match a {
         Answered::Refused { number, record } => (w.kind == 0)
             & (w.number == number)
@@ -68,9 +74,4 @@ fn same_answer(a: Answered, w: Wanted) -> bool {
         Answered::Silent => (w.kind == 1) & (w.number == 0),
         Answered::Reply { length } => (w.kind == 2) & (w.number == 0) & (w.length == length),
     }
-}
-
-// The answer, the bytes of M that were lent, and the whole reply buffer.
-pub fn agrees(a: Answered, w: Wanted, m: &[u8], reply: &[u8]) -> bool {
-    same_answer(a, w) & (bytes::checksum(m) == w.m_sum) & (bytes::checksum(reply) == w.reply_sum)
 }

@@ -1,6 +1,6 @@
 // The image of the memory before a scan: made by a rule, then patched.
-use cases::bytes;
 use cases::drawing;
+use cases::octets;
 use cases::reading;
 
 // As many bytes as the file says next are written over the image, each at its offset.
@@ -9,7 +9,7 @@ pub fn patch(fd: i32, b: &mut [u8]) {
     let mut i: usize = 0;
     while i < n {
         let at = reading::u16_from(fd);
-        bytes::put(b, at, reading::u8_from(fd));
+        octets::put(b, at, reading::u8_from(fd));
         i += 1;
     }
 }

@@ -1,40 +1,59 @@
 // What kinds of cases were met. Of the 18 counts: 0 ended; 1 to 9 refused by that number; 10 watchdog; 11 and 12 the first error 1 and 2;
 // 13 to 15 a budget of 0, of 1, of the largest number; 16 ended with the last step of the budget; 17 also called without a budget.
-use crate::case::Judged;
+ghost use mathlib.Core.Path.{_≡_};
+ghost use Rattle.vectors_scans.specs.Counted.{answerCount, errorCount, budgetCount, lastCount, counted};
 use crate::judge::Answer;
 use cases::told::one_more;
 
-fn add_answer(met: &mut [usize; 18], w: Answer) {
-    let number = w.number;
+fn of_answer(w: Answer) -> usize
+    ensures { λ r. ⌜ r ≡ answerCount w ⌝ }
+{
     let kind = w.kind;
-    let error = w.error;
     match kind {
-        0 => one_more(met, number),
-        1 => one_more(met, 0),
-        _ => one_more(met, 10),
+        0 => w.number,
+        1 => 0,
+        _ => 10,
     }
+}
+
+// 18 is none of the counts, so that nothing is counted.
+fn of_error(error: usize) -> usize
+    ensures { λ r. ⌜ r ≡ errorCount error ⌝ }
+{
     match error {
-        1 => one_more(met, 11),
-        2 => one_more(met, 12),
-        _ => {}
+        1 => 11,
+        2 => 12,
+        _ => 18,
     }
 }
 
-fn add_budget(met: &mut [usize; 18], budget: u32) {
+fn of_budget(budget: u32) -> usize
+    ensures { λ r. ⌜ r ≡ budgetCount budget ⌝ }
+{
     match budget {
-        0 => one_more(met, 13),
-        1 => one_more(met, 14),
-        4294967295 => one_more(met, 15),
-        1000000 => one_more(met, 17),
-        _ => {}
+        0 => 13,
+        1 => 14,
+        4294967295 => 15,
+        1000000 => 17,
+        _ => 18,
     }
 }
 
-pub fn add(met: &mut [usize; 18], c: Judged) {
-    let want = c.want;
-    add_answer(met, want);
-    add_budget(met, c.budget);
-    if (want.kind == 1) & (want.steps == c.budget as usize) {
-        one_more(met, 16);
+fn of_last_step(w: Answer, budget: u32) -> usize
+    ensures { λ r. ⌜ r ≡ lastCount w budget ⌝ }
+{
+    if (w.kind == 1) & (w.steps == budget as usize) {
+        return 16;
     }
+    18
+}
+
+// One case more, by what it wants and by its budget.
+pub fn add(met: &mut [usize; 18], w: Answer, budget: u32)
+    ensures { λ _. ⌜ now (met .exit) ≡ counted w budget (now (met .entry)) ⌝ }
+{
+    one_more(met, of_answer(w));
+    one_more(met, of_error(w.error));
+    one_more(met, of_budget(budget));
+    one_more(met, of_last_step(w, budget));
 }

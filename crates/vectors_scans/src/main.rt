@@ -24,7 +24,7 @@ fn section(
     while i < n {
         size = reading::file_field(fd, file, size);
         let c = case::next(fd, file, size, image);
-        counts::add(met, c);
+        counts::add(met, c.want, c.budget);
         if !c.agrees {
             cases::told::differs(b"scan", i, differ);
             differ += 1;

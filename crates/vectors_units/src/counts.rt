@@ -1,5 +1,7 @@
 // What came of a case, and what kinds of answers were met. Of the 20 counts: 10, 15 and 16 refused by that number; 0 no clash, nothing, or all spelt;
 // 1 some clashes, or a part of the first text; 2 all 2,016 clashes, or a part of the second; 17 neither text; 18 a list of at most 64; 19 a longer one.
+ghost use mathlib.Core.Path.{_≡_};
+ghost use Rattle.vectors_units.specs.Counted.{listCount, clashCount};
 use cases::told::line;
 use units::Clashed;
 
@@ -11,12 +13,16 @@ pub struct Judged {
 }
 
 // The count of a list of n declarations.
-pub fn of_list(n: usize) -> usize {
+pub fn of_list(n: usize) -> usize
+    ensures { λ r. ⌜ r ≡ listCount n ⌝ }
+{
     if n > 64 { 19 } else { 18 }
 }
 
 // The count of a list's answer.
-pub fn of_clashes(a: Clashed) -> usize {
+pub fn of_clashes(a: Clashed) -> usize
+    ensures { λ r. ⌜ r ≡ clashCount a ⌝ }
+{
     match a {
         Clashed::Refused { number, record } => number,
         Clashed::Clashes { count } => match count {

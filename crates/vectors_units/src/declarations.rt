@@ -1,5 +1,4 @@
 // Declarations, as they follow in the file.
-use cases::bytes;
 use cases::reading;
 use units::Declaration;
 use units::Table;
@@ -47,25 +46,4 @@ pub fn table(fd: i32, n: usize) -> Table {
         i += 1;
     }
     t
-}
-
-fn same_declaration(a: Declaration, b: Declaration) -> bool {
-    let an = a.name;
-    let bn = b.name;
-    bytes::same(&an, &bn) & (a.unit == b.unit) & (a.start == b.start) & (a.length == b.length)
-}
-
-// Whether the first n declarations are the same, or all 64 where n is more.
-pub fn same(t: Table, u: Table, n: usize) -> bool {
-    let mut i: usize = 0;
-    while i < 64 {
-        if i >= n {
-            return true;
-        }
-        if !same_declaration(t.at[i], u.at[i]) {
-            return false;
-        }
-        i += 1;
-    }
-    true
 }

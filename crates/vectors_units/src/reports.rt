@@ -1,4 +1,7 @@
-// Reports: before a call by their seed, as they are wanted after it, and compared.
+// Reports: before a call by their seed, and as they are wanted after it.
+ghost use lib.ListN.{length};
+ghost use mathlib.Core.Path.{_≡_};
+ghost use Rattle.vectors_units.specs.Seeded.{seeded};
 use cases::reading;
 
 fn put(r: &mut [[u32; 2]], i: usize, first: u32, second: u32) {
@@ -8,12 +11,13 @@ fn put(r: &mut [[u32; 2]], i: usize, first: u32, second: u32) {
 }
 
 // What stands in a report before the call.
-pub fn fill(r: &mut [[u32; 2]], seed: u32) {
-    let n = r.len();
+pub fn fill(r: &mut [[u32; 2]], seed: u32)
+    ensures { λ _. ⌜ now (r .exit) ≡ seeded seed (length (now (r .entry))) ⌝ }
+{
     let mut v = seed;
-    let mut i: usize = 0;
-    while i < n {
-        put(r, i, v, std::num::wrapping_add_u32(v, 1));
+    let mut i = 0;
+    while i < r.len() {
+        r[i] = [v, std::num::wrapping_add_u32(v, 1)];
         v = std::num::wrapping_add_u32(v, 2);
         i += 1;
     }
@@ -27,20 +31,4 @@ pub fn pairs(fd: i32, r: &mut [[u32; 2]], n: usize) {
         put(r, i, (both % 65536) as u32, (both / 65536) as u32);
         i += 1;
     }
-}
-
-pub fn same(a: &[[u32; 2]], b: &[[u32; 2]]) -> bool {
-    if a.len() != b.len() {
-        return false;
-    }
-    let mut i = 0;
-    while i < a.len() {
-        let x = a[i];
-        let y = b[i];
-        if (x[0] != y[0]) | (x[1] != y[1]) {
-            return false;
-        }
-        i += 1;
-    }
-    true
 }

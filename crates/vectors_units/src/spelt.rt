@@ -3,8 +3,32 @@ use crate::counts;
 use crate::counts::Judged;
 use crate::declarations;
 use crate::tables;
+use cases::octets::least;
 use cases::reading;
 use unit_texts::Units;
+use units::Declaration;
+use units::Table;
+
+fn same_declaration(a: Declaration, b: Declaration) -> bool {
+    let an = a.name;
+    let bn = b.name;
+    check::same(&an, &bn) & (a.unit == b.unit) & (a.start == b.start) & (a.length == b.length)
+}
+
+// Whether the first n declarations are the same, or all 64 where n is more.
+fn same(t: Table, u: Table, n: usize) -> bool {
+    let mut i: usize = 0;
+    while i < 64 {
+        if i >= n {
+            return true;
+        }
+        if !same_declaration(t.at[i], u.at[i]) {
+            return false;
+        }
+        i += 1;
+    }
+    true
+}
 
 // The refusal of what was read: 15, or 0 if there is none.
 fn refusal(good: bool) -> usize {
@@ -16,11 +40,11 @@ fn judged(fd: i32, u: Units) -> Judged {
     let number = reading::u32_from(fd);
     let line = reading::u32_from(fd);
     let count = reading::u32_from(fd);
-    let t = declarations::table(fd, tables::least(count, 64));
-    let same = declarations::same(t, u.table, count);
+    let t = declarations::table(fd, least(count, 64));
+    let alike = same(t, u.table, count);
     let answer = refusal(u.good);
     Judged {
-        agrees: (answer == number) & (u.line == line) & (u.count == count) & same,
+        agrees: (answer == number) & (u.line == line) & (u.count == count) & alike,
         answer,
         list: counts::of_list(count),
     }

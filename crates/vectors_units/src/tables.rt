@@ -1,19 +1,16 @@
-// Zeros for as much as a case lends at most, which tell their length alone, so that no proof writes the zeros out; and how much is lent.
+// Zeros for as much as a case lends at most, which tell their length beside them, so that no proof writes the zeros out; and the next text of a file.
 ghost use Prim.Native.Nat.{_≤_};
 ghost use lib.ListN.{length};
 ghost use mathlib.Core.Path.{_≡_};
+ghost use Rattle.cases.specs.Filled.{entries};
+ghost use Rattle.units.specs.Report.{pair};
+use cases::octets::least;
 use cases::reading;
 
 pub fn report() -> [[u32; 2]; 2100]
-    ensures { λ r. ⌜ 2100 ≡ length r ⌝ }
+    ensures { λ r. ⌜ (2100 ≡ length r) × (r ≡ entries 2100 (pair 0 0)) ⌝ }
 {
     [[0; 2]; 2100]
-}
-
-pub fn least(a: usize, b: usize) -> usize
-    ensures { λ r. ⌜ r ≤ b ⌝ }
-{
-    if a <= b { a } else { b }
 }
 
 // The next text of the file, whose length stands ahead of it. Answers the length. No text is longer than what is lent.

@@ -9,8 +9,8 @@ use Rattle.vectors_leaves.proofs.leaf.word_agrees.Tie as tie
 compute-requires : tie.Need-compute-requires
 compute-requires c κs = (
   search needs,
-  rw (said w64 (c .before .before .before .signed .ok) refl) (rw (c .half-of .ensures .0) (c .before .before .before .signed .ensures)),
-  rw (said w64 (c .before .signed2 .ok) refl) (rw (c .half-of .ensures .0) (c .before .signed2 .ensures)),
+  rw (said w64 (c .before .before .before .signed .ok) refl) (rw (c .half-of .ensures .0) (c .before .before .before .signed .ensures .1)),
+  rw (said w64 (c .before .signed2 .ok) refl) (rw (c .half-of .ensures .0) (c .before .signed2 .ensures .1)),
 )
 
 pub word-agrees-spec : {M : Type 1} → statement M

@@ -2,8 +2,10 @@
 use Prim.Native.Nat.{ℕ, _+_, _%_, _<_}
 use native.Mathlib.Omega.{arith}
 use native.Mathlib.Nat.{mod-lt}
+use mathlib.Core.Path.{ap₂, _∙_}
 use mir.Syntax.{w64}
 use borrow.Author.Needs.{needs}
+use Rattle.ec20.specs.Numbers.{signed}
 use Rattle.ints.proofs.Parts.{said}
 use Rattle.ints.proofs.TwosLaws.{signed-range}
 use Rattle.vectors_leaves.proofs.number.signed.Statement.{statement}
@@ -20,8 +22,10 @@ returns : tie.Need-returns
 returns c =
     let u = c .before .before .u32-at .result in
     let h = c .before .half-of .result in
-    rw (said w64 (c .of-bits .ok) (c .of-bits .ensures))
-    (rw (← c .before .half-of .ensures .0) (signed-range h (u % (h + h)) (below u h (c .before .half-of .ensures .1))))
+    let e = said w64 (c .of-bits .ok) (c .of-bits .ensures) in (
+      e ∙ ap₂ (λ (k v : ℕ). signed k (v % (k + k))) (c .before .half-of .ensures .0) (c .before .before .u32-at .ensures .0),
+      rw e (rw (← c .before .half-of .ensures .0) (signed-range h (u % (h + h)) (below u h (c .before .half-of .ensures .1)))),
+    )
 
 pub signed-spec : {M : Type 1} → statement M
 signed-spec =

@@ -1,0 +1,2 @@
+-- The lines of the list of calls.
+pub mod Called

@@ -1,0 +1,2 @@
+-- Bytes by a rule.
+pub mod Made

@@ -1,0 +1,2 @@
+-- Answers that are the same.
+pub mod Alike
