@@ -1,6 +1,11 @@
 // scan FILE MEMORY ELAPSED [BUDGET]: a scan of a program file over a memory file, which is replaced by the memory after it. Here is what comes ahead
 // of the scan and after it.
+ghost use Rattle.calls.specs.Numbers.{isNumber, numberOf};
+ghost use Rattle.calls.specs.Text.{wordOf, countOf};
 ghost use Rattle.io.specs.Counts.{Counts};
+ghost use lib.Dec.{eqb};
+ghost use mathlib.Core.Bool.{true, cond, _&&_};
+ghost use mathlib.Core.Path.{_≡_};
 use calls::files;
 use calls::numbers;
 use calls::numbers::Number;
@@ -20,16 +25,27 @@ pub struct Scan {
 }
 
 // BUDGET is 1,000,000 where the call names none.
-pub fn asked(call: &[u8], err: i32) -> Scan {
-    let elapsed = numbers::word(call, 3, numbers::ELAPSED, err);
-    let mut budget = Number {
+fn budget(call: &[u8], err: i32) -> Number
+    ensures { λ r. ⌜ r .n ≡ cond (eqb (countOf (now (call .entry))) 5) (numberOf (wordOf (now (call .entry)) 4)) 1000000 ⌝ }
+    ensures { λ r. ⌜ r .good ≡ cond (eqb (countOf (now (call .entry))) 5) (isNumber (wordOf (now (call .entry)) 4)) true ⌝ }
+{
+    if text::count(call) == 5 {
+        return numbers::word(call, 4, numbers::BUDGET, err);
+    }
+    Number {
         n: 1_000_000,
         good: true,
-    };
-    if text::count(call) == 5 {
-        let to = numbers::err_after(elapsed.good, err);
-        budget = numbers::word(call, 4, numbers::BUDGET, to);
     }
+}
+
+// Words 3 and 4.
+pub fn asked(call: &[u8], err: i32) -> Scan
+    ensures { λ r. ⌜ r .elapsed ≡ numberOf (wordOf (now (call .entry)) 3) ⌝ }
+    ensures { λ r. ⌜ r .budget ≡ cond (eqb (countOf (now (call .entry))) 5) (numberOf (wordOf (now (call .entry)) 4)) 1000000 ⌝ }
+    ensures { λ r. ⌜ r .good ≡ (isNumber (wordOf (now (call .entry)) 3) && cond (eqb (countOf (now (call .entry))) 5) (isNumber (wordOf (now (call .entry)) 4)) true) ⌝ }
+{
+    let elapsed = numbers::word(call, 3, numbers::ELAPSED, err);
+    let budget = budget(call, numbers::err_after(elapsed.good, err));
     Scan {
         elapsed: elapsed.n,
         budget: budget.n,

@@ -1,15 +1,21 @@
 // trial OLD START LENGTH POOLSTART POOLEND MEMORY SCANS: a move tried out in memory. Here is what comes ahead of the first scan: the files are read, the
 // program is moved in a copy, and the move is told. demo FILE MEMORY UNITS: the same for the mixer, after the story of it.
+ghost use Prim.Native.Nat.{_<_};
+ghost use Rattle.beginnings.specs.Tried.{Named, ofMixer};
+ghost use Rattle.ec20.specs.Move.{block};
+ghost use Rattle.turns.specs.Turns.{MovedTo};
+ghost use lib.ListN.{length, take};
+ghost use mathlib.Core.Path.{_≡_};
+use crate::changes;
 use crate::mixer;
 use crate::scans;
+use crate::shown;
 use calls::asked;
 use calls::numbers;
 use calls::text;
 use ec20::Moved;
 use memories::exchanges::Way;
 use telling::report;
-use turns::changes;
-use turns::shown;
 
 // A move of a program: the block and the pool, the scans that follow it, the word of the call that names the memory, and
 // whether the mixer's story comes first. Word 1 names the program. good: each is a number.
@@ -24,7 +30,9 @@ pub struct Tried {
     pub good: bool,
 }
 
-fn named(call: &[u8], err: i32) -> Tried {
+fn named(call: &[u8], err: i32) -> Tried
+    ensures { λ r. ⌜ Named (now (call .entry)) r ⌝ }
+{
     let a = numbers::block_and_pool(call, err);
     let scans = numbers::word(call, 7, numbers::SCANS, numbers::err_after(a.good, err));
     Tried {
@@ -40,7 +48,9 @@ fn named(call: &[u8], err: i32) -> Tried {
 }
 
 // The mixer's block as it is, D100-D106, in the pool D300-D399, and 20 scans.
-fn mixers() -> Tried {
+fn mixers() -> Tried
+    ensures { λ r. ⌜ r ≡ ofMixer ⌝ }
+{
     Tried {
         start: 100,
         length: 7,
@@ -54,7 +64,9 @@ fn mixers() -> Tried {
 }
 
 // What a trial asks for by its words, or the demo.
-pub fn wanted(command: usize, call: &[u8], err: i32) -> Tried {
+pub fn wanted(command: usize, call: &[u8], err: i32) -> Tried
+    ensures { λ r. ⌜ (command ≡ 6 → r ≡ ofMixer) × ((command ≡ 6 → ⊥) → Named (now (call .entry)) r) ⌝ }
+{
     if command == asked::DEMO {
         return mixers();
     }
@@ -69,7 +81,9 @@ pub struct Begun {
     pub way: Way,
 }
 
-fn stopped(status: usize) -> Begun {
+fn stopped(status: usize) -> Begun
+    ensures { λ r. ⌜ r .status ≡ status ⌝ }
+{
     Begun {
         to: 0,
         status,
@@ -92,13 +106,25 @@ fn refuse(
     record: usize,
     out: i32,
     err: i32,
-) -> Begun {
+) -> Begun
+    ensures { λ r. ⌜ (r .status ≡ 0 → ⊥) ⌝ }
+{
     if sized | (number < 9) {
         let o = report::refused(text::word(call, 1), old, number, record, out, err);
         return stopped(o.status);
     }
     let o = report::refused(text::word(call, memory_word), old, 9, 0, out, err);
     stopped(o.status)
+}
+
+// A place is a number of a D word.
+fn word_at(place: usize) -> u32
+    ensures { λ r. ⌜ (place < 8000 → r ≡ place) ⌝ }
+{
+    if place < 8000 {
+        return place as u32;
+    }
+    0
 }
 
 // The bytes of the old program and the same again, which are moved.
@@ -110,7 +136,10 @@ fn move_copy(
     t: Tried,
     out: i32,
     err: i32,
-) -> Begun {
+) -> Begun
+    requires { ⌜ now new ≡ now old ⌝ }
+    ensures { λ r. ⌜ (r .status ≡ 0 → MovedTo (now (old .entry)) (block (r .way .start) (r .way .length)) (r .way .place) (now (new .exit)) × (r .n ≡ length (now (old .entry)))) ⌝ }
+{
     match mover::move_block(new, t.start, t.length, t.pool_start, t.pool_end) {
         Moved::Refused { number, record } => {
             refuse(call, old, t.memory_word, sized, number, record, out, err)
@@ -120,11 +149,6 @@ fn move_copy(
                 let changed = changes::changed(old, new);
                 let to = shown::moved(out, t.start, t.length, place, changed);
                 let n = old.len();
-                // A place is a number of a D word.
-                let mut new_start: u32 = 0;
-                if place < 8000 {
-                    new_start = place as u32;
-                }
                 Begun {
                     to,
                     status: 0,
@@ -132,7 +156,7 @@ fn move_copy(
                     way: Way {
                         start: t.start,
                         length: t.length,
-                        place: new_start,
+                        place: word_at(place),
                     },
                 }
             } else {
@@ -151,7 +175,9 @@ fn copied(
     t: Tried,
     out: i32,
     err: i32,
-) -> Begun {
+) -> Begun
+    ensures { λ r. ⌜ (r .status ≡ 0 → MovedTo (now (old .entry)) (block (r .way .start) (r .way .length)) (r .way .place) (take (r .n) (now (new .exit))) × (r .n ≡ length (now (old .entry)))) ⌝ }
+{
     let n = old.len();
     if n > new.len() {
         return stopped(2);
@@ -161,15 +187,9 @@ fn copied(
 }
 
 // The story ahead of it, where it is to be told.
-fn told(
-    call: &[u8],
-    old: &[u8],
-    new: &mut [u8],
-    sized: bool,
-    t: Tried,
-    out: i32,
-    err: i32,
-) -> Begun {
+fn told(call: &[u8], old: &[u8], new: &mut [u8], sized: bool, t: Tried, out: i32, err: i32) -> Begun
+    ensures { λ r. ⌜ (r .status ≡ 0 → MovedTo (now (old .entry)) (block (r .way .start) (r .way .length)) (r .way .place) (take (r .n) (now (new .exit))) × (r .n ≡ length (now (old .entry)))) ⌝ }
+{
     if t.told {
         let b = mixer::begin(call, old, new, out, err);
         if b.status != 0 {
@@ -190,14 +210,17 @@ fn part(
     t: Tried,
     out: i32,
     err: i32,
-) -> Begun {
+) -> Begun
+    ensures { λ r. ⌜ (r .status ≡ 0 → MovedTo (take (r .n) (now (old .entry))) (block (r .way .start) (r .way .length)) (r .way .place) (take (r .n) (now (new .exit)))) ⌝ }
+{
     if n > old.len() {
         return stopped(2);
     }
     told(call, &old[0..n], new, sized, t, out, err)
 }
 
-// Afterwards the old program is at the start of its buffer, the new one of its own, and the memory file of its own.
+// Afterwards the old program is at the start of its buffer, the new one of its own, and the memory file of its own. Where the scans follow, the move was
+// accepted: the new program is the old one with the block at its place.
 pub fn begin(
     call: &[u8],
     t: Tried,
@@ -206,7 +229,9 @@ pub fn begin(
     memory: &mut [u8; 65536],
     out: i32,
     err: i32,
-) -> Begun {
+) -> Begun
+    ensures { λ r. ⌜ (r .status ≡ 0 → MovedTo (take (r .n) (now (old .exit))) (block (r .way .start) (r .way .length)) (r .way .place) (take (r .n) (now (new .exit)))) ⌝ }
+{
     if !t.good {
         return stopped(2);
     }

@@ -1,23 +1,23 @@
 // trial OLD START LENGTH POOLSTART POOLEND MEMORY SCANS: a move tried out in memory. Old and new program run side by side for so many scans, and
 // what they answer and leave is compared. No file is changed. demo FILE MEMORY UNITS: the same for the mixer, after the story of it.
+ghost use Rattle.demands.specs.Demand3.{withExchange};
+ghost use Rattle.ec20.specs.Move.{block};
+ghost use Rattle.image.specs.Image.{memoryOf};
+ghost use Rattle.turns.specs.Turns.{MovedTo};
+ghost use lib.ListN.{take};
+ghost use mathlib.Core.Path.{_≡_};
+use beginnings::shown;
+use beginnings::shown::Sum;
 use beginnings::trials;
 use calls::results::Outcome;
 use memories::exchanges;
 use memories::exchanges::Way;
 use memories::tables;
+use memory_scans::pairs;
 use turns::images;
-use turns::shown;
-use turns::shown::Sum;
-use turns::turn;
-use turns::turn::Answer;
-use turns::turn::Turn;
-
-fn one_scan(f: &[u8], image: &mut [u8; 16890]) -> Answer {
-    turn::answer_of(memory_scans::scan(f, image, 16890, 1, 1_000_000))
-}
 
 // n scans of each program, the old one over memory a, the new one over memory b, in which block and place are exchanged. The inputs are drawn anew
-// before each.
+// before each. Of an accepted move none differs.
 fn scans(
     old: &[u8],
     new: &[u8],
@@ -27,20 +27,15 @@ fn scans(
     n: u32,
     out: i32,
     err: i32,
-) -> Sum {
+) -> Sum
+    ensures { λ r. ⌜ (MovedTo (now (old .entry)) (block (w .start) (w .length)) (w .place) (now (new .entry)) → memoryOf (now (b .entry)) ≡ withExchange (block (w .start) (w .length)) (w .place) (memoryOf (now (a .entry))) → r .differ ≡ 0) ⌝ }
+{
     let mut s = shown::begun(out);
     let mut k: u32 = 0;
     let mut state: u32 = 1;
     while k < n {
         state = images::draw_inputs(a, b, state);
-        let one = one_scan(old, a);
-        let two = one_scan(new, b);
-        let first = images::apart(a, b, w);
-        let t = Turn {
-            old: one,
-            new: two,
-            apart: first,
-        };
+        let t = pairs::pair(old, new, a, b, w, 1, 1_000_000);
         s = shown::scan(s, k, n, t, err);
         k += 1;
     }
@@ -58,7 +53,9 @@ fn parts(
     n: u32,
     out: i32,
     err: i32,
-) -> Sum {
+) -> Sum
+    ensures { λ r. ⌜ (MovedTo (take size (now (old .entry))) (block (w .start) (w .length)) (w .place) (take size (now (new .entry))) → memoryOf (now (b .entry)) ≡ withExchange (block (w .start) (w .length)) (w .place) (memoryOf (now (a .entry))) → r .differ ≡ 0) ⌝ }
+{
     if size > old.len() {
         return shown::begun(-1);
     }
@@ -68,7 +65,8 @@ fn parts(
     scans(&old[0..size], &new[0..size], a, b, w, n, out, err)
 }
 
-// Both programs from the same memory on, in which block and place are exchanged for the new one.
+// Both programs from the same memory on, in which block and place are exchanged for the new one. The new program is the old one after an accepted move:
+// so they are not found to differ.
 fn run_moved(
     old: &[u8; 65536],
     new: &[u8; 65536],
@@ -78,7 +76,10 @@ fn run_moved(
     n: u32,
     out: i32,
     err: i32,
-) -> Outcome {
+) -> Outcome
+    requires { ⌜ MovedTo (take size (now old)) (block (w .start) (w .length)) (w .place) (take size (now new)) ⌝ }
+    ensures { λ r. ⌜ (r .status ≡ 1 → ⊥) ⌝ }
+{
     let mut a = tables::image();
     let mut b = tables::image();
     tables::start(memory, &mut a);

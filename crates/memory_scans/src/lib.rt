@@ -1,18 +1,31 @@
-// A scan over the bytes of a memory file. Nothing is promised beyond safety: what it does to the tables is proved of the crate engine, and which
-// byte is which entry of the crate image.
-ghost use Prim.Native.Nat.{_≤_};
+// A scan over the bytes of a memory file. What it makes of the memory stands in specs/Scans.antt. It is promised of the tables that the bytes mean, and
+// of the bytes. pairs: a scan of an old program and one of the moved one, side by side.
+pub mod pairs;
+
+ghost use Prim.Native.Nat.{ℕ, _≤_};
+ghost use Rattle.ec20.specs.Basics.{pick};
+ghost use Rattle.ec20.specs.declared.Scanned.the-variants.{Refused};
+ghost use Rattle.image.specs.Image.{memoryOf, imageOf};
+ghost use Rattle.memory_scans.specs.Scans.{scanIn};
+ghost use lib.Dec.{eqb};
+ghost use mathlib.Core.Path.{_≡_};
 use ec20::Scanned;
 use memories::tables;
 
 // A memory file of another size is lent as an X table with no entry, which is refused by 9 where nothing ahead of it holds.
 fn entries(size: usize) -> usize
-    ensures { λ r. ⌜ r ≤ 32 ⌝ }
+    ensures { λ r. ⌜ (r ≡ pick (eqb size 16890) 32 0) × (r ≤ 32) ⌝ }
 {
     if size == 16890 { 32 } else { 0 }
 }
 
-// The scan over the memory of the image, which is then the one after it. size: how many bytes the memory file has.
-pub fn scan(f: &[u8], image: &mut [u8; 16890], size: usize, elapsed: u32, budget: u32) -> Scanned {
+// The scan over the memory of the image, which is then the one after it. size: how many bytes the memory file has. A refused one changes no byte.
+pub fn scan(f: &[u8], image: &mut [u8; 16890], size: usize, elapsed: u32, budget: u32) -> Scanned
+    ensures { λ r. ⌜ r ≡ scanIn (now (f .entry)) size elapsed budget (memoryOf (now (image .entry))) .answer ⌝ }
+    ensures { λ _. ⌜ memoryOf (now (image .exit)) ≡ scanIn (now (f .entry)) size elapsed budget (memoryOf (now (image .entry))) .mem ⌝ }
+    ensures { λ _. ⌜ now (image .exit) ≡ imageOf (scanIn (now (f .entry)) size elapsed budget (memoryOf (now (image .entry))) .mem) ⌝ }
+    ensures { λ r. ⌜ ((m k : ℕ) → r ≡ Refused m k → now (image .exit) ≡ now (image .entry)) ⌝ }
+{
     let mut x = tables::bits();
     let mut y = tables::bits();
     let mut m = tables::m_bits();

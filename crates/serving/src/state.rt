@@ -1,5 +1,6 @@
 // How far a slave is.
 ghost use lib.ListN.{length};
+ghost use mathlib.Core.Bool.{false};
 ghost use mathlib.Core.Path.{_≡_};
 
 // device: the line; stop: the file in which a byte asks to end. Moments in milliseconds: when it began, up to when its scans have counted the time, when
@@ -21,8 +22,11 @@ pub struct State {
     pub over: bool,
 }
 
-// One scan was made.
-pub fn begun(device: i32, stop: i32) -> State {
+// One scan was made. All four moments are the one that the clock tells.
+pub fn begun(device: i32, stop: i32) -> State
+    ensures { λ r. ⌜ (r .device ≡ device) × (r .stop ≡ stop) × (r .counted ≡ r .begun) × (r .heard ≡ r .begun) × (r .shown ≡ r .begun) ⌝ }
+    ensures { λ r. ⌜ (r .held ≡ 0) × (r .came ≡ 0) × (r .scans ≡ 1) × (r .requests ≡ 0) × (r .replies ≡ 0) × (r .silent ≡ 0) × (r .over ≡ false) ⌝ }
+{
     let now = clock::milliseconds();
     State {
         device,

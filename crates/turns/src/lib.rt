@@ -1,6 +1,4 @@
-// A scan of the old program and of the new one, side by side: what came of each, how it is told, and how many D numbers the move changed. It
-// does not scan. Nothing is promised beyond safety.
-pub mod changes;
+// A scan of the old program and of the moved one, side by side: what came of each, whether they are alike, and the inputs that both are given. It does
+// not scan; the pair of scans stands in the crate memory_scans.
 pub mod images;
-pub mod shown;
 pub mod turn;

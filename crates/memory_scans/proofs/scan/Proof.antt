@@ -1,12 +1,25 @@
--- The entries of X that are lent are at most all of them. Assumes nothing.
+-- The tables split, the scan over them, with X whole or none of it, and the tables joined. Assumes nothing.
 use native.Mathlib.Omega.{arith}
 use lib.ListN.{length-take}
 use borrow.Author.Needs.{needs}
+use Rattle.memories.proofs.After.{new-sizes}
+use Rattle.memory_scans.proofs.Scanning.{scan-after}
 use Rattle.memory_scans.proofs.scan.Statement.{statement}
 use Rattle.memory_scans.proofs.scan.Tie as tie
 
 slice-aggregate-scan-file : tie.Need-slice-aggregate-scan-file
 slice-aggregate-scan-file c = simp length-take (omega arith)
+
+returns : tie.Need-returns
+returns c =
+    let w = c .before .before .before .before .before .before .before .before .before .before .before .before .before .before .before in
+    let k = w .scan-file .kept .1 .1 in
+    let s = w .before .before .before .before .before .before .before .before .before .before .before .before .before .before .before .before in
+    let n = s .before .before .before .before .before .before .before .before .before .before in
+    let new = new-sizes (n .before .before .before .before .before .before .bits .ensures) (n .before .before .before .before .before .bits2 .ensures) (n .before .before .before .before .m-bits .ensures) (n .before .before .before .bits3 .ensures) (n .before .before .bits4 .ensures) (n .before .d-words .ensures) (n .t-values .ensures) in
+    let e = s .split .ensures .1 .1 .1 .1 .1 .1 .1 in
+    let a = n .before .before .before .before .before .before .before .before .args in
+    scan-after _ _ (a .elapsed) (a .budget) (s .before .before .before .before .before .before .before .before .split-arg2 .given .0) (e .0 new) (e .1) (w .before .before .before .before .before .before .before .before .entries .ensures .0) (w .scan-file .ensures) (k .0) (k .1 .0) (k .1 .1 .0) (k .1 .1 .1 .0) (k .1 .1 .1 .1 .0) (k .1 .1 .1 .1 .1 .0) (c .join .ensures .1 .0) (c .join .ensures .1 .1)
 
 pub scan-spec : {M : Type 1} → statement M
 scan-spec =
@@ -45,4 +58,4 @@ scan-spec =
     (λ c. search needs)
     (λ c. search needs)
     (λ c κs. search needs)
-    (λ c. search needs))
+    returns)

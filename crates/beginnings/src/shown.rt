@@ -1,11 +1,16 @@
 // What a trial prints: the move, a line for a scan, how far it is, the sum of it.
-use crate::turn;
-use crate::turn::Answer;
-use crate::turn::Turn;
+ghost use Prim.Native.Nat.{_+_, _%_};
+ghost use Rattle.turns.specs.Turns.{Alike};
+ghost use mathlib.Core.Bool.{false};
+ghost use mathlib.Core.Logic.{_⊎_};
+ghost use mathlib.Core.Path.{_≡_};
 use calls::results;
 use calls::results::Outcome;
 use calls::texts;
 use telling::spans;
+use turns::turn;
+use turns::turn::Answer;
+use turns::turn::Turn;
 
 pub fn moved(to: i32, start: u32, length: u32, place: usize, changed: usize) -> i32 {
     let to = spans::say_both(to, texts::TRIED, start as usize, place, length as usize);
@@ -72,7 +77,9 @@ pub struct Sum {
 }
 
 // A sum of which nothing is told yet.
-pub fn begun(to: i32) -> Sum {
+pub fn begun(to: i32) -> Sum
+    ensures { λ r. ⌜ (r .to ≡ to) × (r .differ ≡ 0) × (r .work ≡ 0) ⌝ }
+{
     Sum {
         to,
         differ: 0,
@@ -91,12 +98,14 @@ fn progress(err: i32, work: usize, k: u32, n: u32, steps: usize) -> usize {
     0
 }
 
-// Scan k of n, from 0. The first 20 are told, and each that differs. Alike: the answers are the same, and so are the memories after exchange.
-pub fn scan(s: Sum, k: u32, n: u32, t: Turn, err: i32) -> Sum {
+// Scan k of n, from 0. The first 20 are told, and each that differs.
+pub fn scan(s: Sum, k: u32, n: u32, t: Turn, err: i32) -> Sum
+    ensures { λ r. ⌜ (Alike t → r .differ ≡ s .differ) × ((Alike t → ⊥) → r .differ ≡ (s .differ + 1) % 4294967296) ⌝ }
+{
     let old = t.old;
     let work = progress(err, s.work, k, n, old.steps);
     let differ = s.differ;
-    if turn::same_answer(t.old, t.new) & (t.apart == 16890) {
+    if turn::is_alike(t) {
         if k < 20 {
             let to = line(s.to, k, t, true);
             return Sum { to, differ, work };
@@ -117,7 +126,9 @@ pub fn scan(s: Sum, k: u32, n: u32, t: Turn, err: i32) -> Sum {
 }
 
 // The last line, after n scans.
-pub fn ended(n: u32, s: Sum, err: i32) -> Outcome {
+pub fn ended(n: u32, s: Sum, err: i32) -> Outcome
+    ensures { λ r. ⌜ (r .replaced ≡ false) × (s .differ ≡ 0 → (r .status ≡ 0) ⊎ (r .status ≡ 2)) × ((s .differ ≡ 0 → ⊥) → (r .status ≡ 1) ⊎ (r .status ≡ 2)) ⌝ }
+{
     let differ = s.differ;
     let mut scans = texts::SCANS + 1;
     if n == 1 {

@@ -1,0 +1,3 @@
+-- What a trial asks for, and what a move changed.
+pub mod Changes
+pub mod Tried

@@ -1,0 +1,2 @@
+-- A series of pairs of scans
+pub mod Series

@@ -1,0 +1,2 @@
+-- Two scans side by side.
+pub mod Turns
