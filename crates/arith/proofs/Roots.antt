@@ -1,12 +1,13 @@
--- The law of whole roots: the root's square is at most n, the next number's is above n, and there is one such number. Assumes nothing.
-use mathlib.Core.Path.{_≡_, refl}
+-- The law of whole roots: the root's square is at most n, the next number's is above n, there is one such number, and bit by bit from the top finds it. Assumes nothing.
+use mathlib.Core.Path.{_≡_, refl, ap, subst, _∙_}
 use mathlib.Core.Bool.{Bool, true, false}
-use Prim.Native.Nat.{ℕ, zero, suc, _+_, _*_, _≤_, _<_}
-use native.Mathlib.Nat.{mul-le-mul}
+use Prim.Native.Nat.{ℕ, zero, suc, _+_, _*_, _/_, _≤_, _<_, _^_}
+use native.Mathlib.Nat.{mul-le-mul, pow-suc}
 use native.Mathlib.Decide.{decLt}
 use native.Mathlib.Omega.{arith}
 use borrow.Author.Tests.{leb-true, leb-false}
 use lib.Dec.{leb}
+use lib.Pow.{pow-pos}
 use Rattle.ec20.specs.Basics.{pick}
 use Rattle.ec20.specs.Numbers.{rootFrom, rootOf}
 
@@ -52,3 +53,48 @@ root-small n = go (rootOf n) (root-law n .0)
     go : (r : ℕ) → r * r ≤ n → r ≤ n
     go zero l = omega arith
     go (suc r) l = omega arith
+
+-- ---- bit by bit
+
+-- s is the root of n as far as the bits from p up go, and r is s times p
+abbrev Part : ℕ → ℕ → ℕ → ℕ → ℕ → Type 0
+Part n p s square r = (square ≡ s * s) × (square ≤ n) × (n < (s + p) * (s + p)) × (r ≡ s * p)
+
+-- the bits from 2 ^ k up are judged, and place is the square of the next one, 0 below the lowest
+abbrev pub Judged : ℕ → ℕ → ℕ → ℕ → Type 0
+Judged n square r place = (k : ℕ) × (s : ℕ) × Part n (2 ^ k) s square r × (place ≡ 2 ^ k * 2 ^ k / 4)
+
+-- the bit t, half of p, is in the root where n has the square with it, and is not where n is below
+bit-in : (n t s square r : ℕ) → Part n (t + t) s square r → square + r + t * t ≤ n → Part n t (s + t) (square + r + t * t) (r / 2 + t * t)
+bit-in n t s square r (e, l, h, f) m = rw (e, f) (omega arith, omega arith, omega arith, omega arith)
+
+bit-out : (n t s square r : ℕ) → Part n (t + t) s square r → n < square + r + t * t → Part n t s square (r / 2)
+bit-out n t s square r (e, l, h, f) m = rw (e, f) (omega arith, omega arith, omega arith, omega arith)
+
+double : (j : ℕ) → 2 ^ suc j ≡ 2 ^ j + 2 ^ j
+double j = omega (arith, pow-suc 2 j)
+
+square-below : (j : ℕ) → 2 ^ suc j * 2 ^ suc j / 4 ≡ 2 ^ j * 2 ^ j
+square-below j = rw (double j) (omega arith)
+
+-- a place above 0 is the square of some 2 ^ j
+next-bit : (n square r place : ℕ) → Judged n square r place → 0 < place → (j : ℕ) × (s : ℕ) × Part n (2 ^ j + 2 ^ j) s square r × (place ≡ 2 ^ j * 2 ^ j)
+next-bit n square r place (zero, s, p, e) l = absurd (omega arith)
+next-bit n square r place (suc j, s, p, e) l = (j, s, subst (λ (q : ℕ). Part n q s square r) (double j) p, e ∙ square-below j)
+
+-- a turn
+pub turn-in : (n square r place : ℕ) → Judged n square r place → 0 < place → square + r + place ≤ n → Judged n (square + r + place) (r / 2 + place) (place / 4)
+turn-in n square r place g l m =
+    let (j, s, p, e) = next-bit n square r place g l in
+    rw e (j, s + 2 ^ j, bit-in n (2 ^ j) s square r p (omega arith), refl)
+
+pub turn-out : (n square r place : ℕ) → Judged n square r place → 0 < place → n < square + r + place → Judged n square (r / 2) (place / 4)
+turn-out n square r place g l m =
+    let (j, s, p, e) = next-bit n square r place g l in
+    (j, s, bit-out n (2 ^ j) s square r p (omega arith), ap (λ (q : ℕ). q / 4) e)
+
+-- with the lowest bit judged, r is the root and square its square
+pub judged-all : (n square r : ℕ) → Judged n square r 0 → (r ≡ rootOf n) × (square ≡ r * r)
+judged-all n square r (zero, s, (e, l, h, f), z) = (root-unique n r (rw f (omega arith, omega arith)), rw (e, f) (omega arith))
+judged-all n square r (suc k, s, p, z) =
+    absurd (omega (arith, square-below k, mul-le-mul {n₁ = 1} {m₁ = 1} {n₂ = 2 ^ k} {m₂ = 2 ^ k} (pow-pos k) (pow-pos k)))
