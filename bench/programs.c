@@ -1,9 +1,9 @@
 /* Writes the programs that the scans are timed on, each by its name, into the folder that it is given. Most are a body of rungs in a loop, or in
    loops, that makes about 10,000,000 steps, the most that a program may. Those whose names end in a number show the growth: straight-N goes once
-   over its N records, and steps-N makes about N steps, all by the same records but for the passes of FOR. */
+   over its N records, steps-N makes about N steps, all by the same records but for the passes of FOR, and roots-N takes roots of N. */
 #include "compose.h"
 
-enum { MOST_STEPS = 10000000 };
+enum { MOST_STEPS = 10000000, ROOT_STEPS = 1000000 };
 
 /* The body stands at the start of the file: it is put into a loop, or in two, that make as many passes as come to at most so many steps. */
 static void looped(int steps) {
@@ -116,6 +116,13 @@ static void sums(int roots) {
 static void pairs(void) { sums(1); }
 static void rootless(void) { sums(0); }
 
+/* The root of one number, at 24 records of 26 in a loop. */
+static void roots(int number) {
+    put1(LD, SM, 0);
+    for (int i = 0; i < 24; i++) put2(DSQT, CONSTANT, number, D, 2 * i);
+    looped(ROOT_STEPS);
+}
+
 /* Groups of bits as numbers of both widths. */
 static void groups(void) {
     for (int i = 0; i < 8; i++) {
@@ -165,7 +172,7 @@ int main(int arguments, char **argument) {
         const char *name;
         void (*compose)(void);
     } all[] = {{"bits", bits}, {"words", words}, {"pairs", pairs}, {"rootless", rootless}, {"groups", groups}, {"loops", loops}, {"deep", deep}};
-    static const int sizes[] = {100, 500, MOST};
+    static const int sizes[] = {100, 500, MOST}, numbers[] = {0, 100, 83000, INT32_MAX};
     if (arguments != 2) {
         fprintf(stderr, "usage: programs FOLDER\n");
         return 1;
@@ -177,6 +184,10 @@ int main(int arguments, char **argument) {
     for (int i = 0; i < 3; i++) {
         straight(sizes[i]);
         write_numbered(argument[1], "straight", sizes[i]);
+    }
+    for (int i = 0; i < 4; i++) {
+        roots(numbers[i]);
+        write_numbered(argument[1], "roots", numbers[i]);
     }
     for (int steps = 10000; steps <= MOST_STEPS; steps *= 10) {
         mixed(steps);

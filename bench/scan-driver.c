@@ -1,7 +1,10 @@
-/* scan-driver PROGRAM.. [--growth PROGRAM..]
+/* scan-driver PROGRAM.. [--alike PROGRAM..] [--growth PROGRAM..]
 
    One line for each program: its name, the steps of a scan, the nanoseconds of a step, the ratio to the Rust reference, the ratio to C.
    The proved scan and the reference check the program first, at each call, and C does not: with millions of steps that does not count.
+
+   After --alike the same, of programs whose steps should take the same time, and then a line for all of them: the dearest step as a multiple of the
+   cheapest, of each side.
 
    After --growth, C checks the program at each call too, and the nanoseconds are of the whole call. Ahead of them stand, of C and of Ninhalto,
    those of the check alone, and those of a call with a budget of 0 ("ready"), which checks, decodes and makes no step.
@@ -110,6 +113,23 @@ static void measure(int files, char **path) {
     }
 }
 
+static double spread(int s) {
+    double least = subjects[0].best[0][s], most = least;
+    for (int i = 1; i < loaded; i++) {
+        double t = subjects[i].best[0][s];
+        if (t < least) least = t;
+        if (t > most) most = t;
+    }
+    return most / least;
+}
+
+static void measure_alike(int files, char **path) {
+    measure(files, path);
+    printf("the dearest step to the cheapest");
+    for (int s = 0; s < SIDES; s++) printf("  %s %.2f", called[s], spread(s));
+    printf("\n");
+}
+
 static void measure_growth(int files, char **path) {
     enum { CHECK, READY, WHOLE, PARTS };
     timed *const parts[PARTS] = {timed_check, timed_ready, timed_whole};
@@ -123,10 +143,21 @@ static void measure_growth(int files, char **path) {
     }
 }
 
+/* What is measured of the programs after this word, and up to the next of its kind. */
+typedef void measured(int files, char **path);
+
+static measured *section(const char *word) {
+    if (!strcmp(word, "--alike")) return measure_alike;
+    if (!strcmp(word, "--growth")) return measure_growth;
+    return NULL;
+}
+
 int main(int words, char **word) {
-    int plain = 1;
-    while (plain < words && strcmp(word[plain], "--growth")) plain++;
-    measure(plain - 1, word + 1);
-    if (plain < words) measure_growth(words - plain - 1, word + plain + 1);
+    measured *what = measure;
+    for (int from = 1, to = 1; from <= words; from = ++to) {
+        while (to < words && !section(word[to])) to++;
+        if (from < to) what(to - from, word + from);
+        if (to < words) what = section(word[to]);
+    }
     return 0;
 }
