@@ -56,9 +56,9 @@ root-small n = go (rootOf n) (root-law n .0)
 
 -- ---- bit by bit
 
--- s is the root of n as far as the bits from p up go, and r is s times p
+-- s is the root of n as far as the bits from p up go, of 16 bits in all, and r is s times p
 abbrev Part : ℕ → ℕ → ℕ → ℕ → ℕ → Type 0
-Part n p s square r = (square ≡ s * s) × (square ≤ n) × (n < (s + p) * (s + p)) × (r ≡ s * p)
+Part n p s square r = (square ≡ s * s) × (square ≤ n) × (n < (s + p) * (s + p)) × (r ≡ s * p) × (s + p ≤ 65536)
 
 -- the bits from 2 ^ k up are judged, and place is the square of the next one, 0 below the lowest
 abbrev pub Judged : ℕ → ℕ → ℕ → ℕ → Type 0
@@ -66,10 +66,15 @@ Judged n square r place = (k : ℕ) × (s : ℕ) × Part n (2 ^ k) s square r ×
 
 -- the bit t, half of p, is in the root where n has the square with it, and is not where n is below
 bit-in : (n t s square r : ℕ) → Part n (t + t) s square r → square + r + t * t ≤ n → Part n t (s + t) (square + r + t * t) (r / 2 + t * t)
-bit-in n t s square r (e, l, h, f) m = rw (e, f) (omega arith, omega arith, omega arith, omega arith)
+bit-in n t s square r (e, l, h, f, b) m = rw (e, f) (omega arith, omega arith, omega arith, omega arith, omega arith)
 
 bit-out : (n t s square r : ℕ) → Part n (t + t) s square r → n < square + r + t * t → Part n t s square (r / 2)
-bit-out n t s square r (e, l, h, f) m = rw (e, f) (omega arith, omega arith, omega arith, omega arith)
+bit-out n t s square r (e, l, h, f, b) m = rw (e, f) (omega arith, omega arith, omega arith, omega arith, omega arith)
+
+-- the square with that bit has 32 bits
+bit-fits : (n t s square r : ℕ) → Part n (t + t) s square r → 1 ≤ t → square + r + t * t < 4294967296
+bit-fits n t s square r (e, l, h, f, b) m =
+    rw (e, f) (omega (arith, mul-le-mul {n₁ = s + t} {m₁ = s + t} {n₂ = 65535} {m₂ = 65535} (omega arith) (omega arith)))
 
 double : (j : ℕ) → 2 ^ suc j ≡ 2 ^ j + 2 ^ j
 double j = omega (arith, pow-suc 2 j)
@@ -83,6 +88,11 @@ next-bit n square r place (zero, s, p, e) l = absurd (omega arith)
 next-bit n square r place (suc j, s, p, e) l = (j, s, subst (λ (q : ℕ). Part n q s square r) (double j) p, e ∙ square-below j)
 
 -- a turn
+pub turn-fits : (n square r place : ℕ) → Judged n square r place → 0 < place → square + r + place < 4294967296
+turn-fits n square r place g l =
+    let (j, s, p, e) = next-bit n square r place g l in
+    rw e (bit-fits n (2 ^ j) s square r p (pow-pos j))
+
 pub turn-in : (n square r place : ℕ) → Judged n square r place → 0 < place → square + r + place ≤ n → Judged n (square + r + place) (r / 2 + place) (place / 4)
 turn-in n square r place g l m =
     let (j, s, p, e) = next-bit n square r place g l in
@@ -93,8 +103,8 @@ turn-out n square r place g l m =
     let (j, s, p, e) = next-bit n square r place g l in
     (j, s, bit-out n (2 ^ j) s square r p (omega arith), ap (λ (q : ℕ). q / 4) e)
 
--- with the lowest bit judged, r is the root and square its square
-pub judged-all : (n square r : ℕ) → Judged n square r 0 → (r ≡ rootOf n) × (square ≡ r * r)
-judged-all n square r (zero, s, (e, l, h, f), z) = (root-unique n r (rw f (omega arith, omega arith)), rw (e, f) (omega arith))
+-- with the lowest bit judged, r is the root
+pub judged-all : (n square r : ℕ) → Judged n square r 0 → r ≡ rootOf n
+judged-all n square r (zero, s, (e, l, h, f, b), z) = root-unique n r (rw f (omega arith, omega arith))
 judged-all n square r (suc k, s, p, z) =
     absurd (omega (arith, square-below k, mul-le-mul {n₁ = 1} {m₁ = 1} {n₂ = 2 ^ k} {m₂ = 2 ^ k} (pow-pos k) (pow-pos k)))

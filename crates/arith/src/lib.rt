@@ -152,26 +152,36 @@ pub fn div(a: i64, b: i64, h: u64) -> Outcome
     both(quotient, remainder)
 }
 
-// The root of n, with SM180 on if it is 0 and SM182 if a fraction was dropped. It is found bit by bit from the top: 8 turns for a number of 16 bits,
-// 16 for one of 32. With b the bit that is tried and s the root by the bits above it, place is b * b, square is s * s and r is s * 2b: with that bit
-// the square is square + r + place. Past the lowest bit r is the root.
-fn whole_root(n: u64) -> Outcome
+// The largest whole root of n, bit by bit from the top: 8 turns for a number of 16 bits, 16 for one of 32. With b the bit that is tried and s the
+// root by the bits above it, place is b * b, square is s * s and r is s * 2b: with that bit the square is square + r + place, which has 32 bits.
+// Past the lowest bit r is the root.
+fn root(n: u64) -> u64
     requires { ⌜ n < 2 ^ 32 ⌝ }
-    ensures { λ r. ⌜ r ≡ rooted n (rootOf n) ⌝ }
+    ensures { λ r. ⌜ r ≡ rootOf n ⌝ }
 {
-    let mut square: u64 = 0;
-    let mut r: u64 = 0;
-    let mut place: u64 = if n < 65536 { 16384 } else { 1073741824 };
+    let m = n as u32;
+    let mut square: u32 = 0;
+    let mut r: u32 = 0;
+    let mut place: u32 = if m < 65536 { 16384 } else { 1073741824 };
     while place > 0 {
         let next = square + r + place;
         r = r >> 1;
-        if next <= n {
+        if next <= m {
             square = next;
             r += place;
         }
         place = place >> 2;
     }
-    let exact = square == n;
+    r as u64
+}
+
+// The root of n, with SM180 on if it is 0 and SM182 if a fraction was dropped.
+fn whole_root(n: u64) -> Outcome
+    requires { ⌜ n < 2 ^ 32 ⌝ }
+    ensures { λ r. ⌜ r ≡ rooted n (rootOf n) ⌝ }
+{
+    let r = root(n);
+    let exact = r * r == n;
     judged(ints::whole(r), r == 0, false, !exact)
 }
 
