@@ -1,7 +1,7 @@
 -- The law of whole roots: the root's square is at most n, the next number's is above n, there is one such number, and bit by bit from the top finds it. Assumes nothing.
 use mathlib.Core.Path.{_≡_, refl, ap, subst, _∙_}
 use mathlib.Core.Bool.{Bool, true, false}
-use Prim.Native.Nat.{ℕ, zero, suc, _+_, _*_, _/_, _≤_, _<_, _^_}
+use Prim.Native.Nat.{ℕ, zero, suc, _+_, _-_, _*_, _/_, _≤_, _<_, _^_}
 use native.Mathlib.Nat.{mul-le-mul, pow-suc}
 use native.Mathlib.Decide.{decLt}
 use native.Mathlib.Omega.{arith}
@@ -56,25 +56,25 @@ root-small n = go (rootOf n) (root-law n .0)
 
 -- ---- bit by bit
 
--- s is the root of n as far as the bits from p up go, of 16 bits in all, and r is s times p
+-- s is the root of n as far as the bits from p up go, of 16 bits in all, rest is n less its square, and r is s times p
 abbrev Part : ℕ → ℕ → ℕ → ℕ → ℕ → Type 0
-Part n p s square r = (square ≡ s * s) × (square ≤ n) × (n < (s + p) * (s + p)) × (r ≡ s * p) × (s + p ≤ 65536)
+Part n p s rest r = (rest + s * s ≡ n) × (n < (s + p) * (s + p)) × (r ≡ s * p) × (s + p ≤ 65536)
 
 -- the bits from 2 ^ k up are judged, and place is the square of the next one, 0 below the lowest
 abbrev pub Judged : ℕ → ℕ → ℕ → ℕ → Type 0
-Judged n square r place = (k : ℕ) × (s : ℕ) × Part n (2 ^ k) s square r × (place ≡ 2 ^ k * 2 ^ k / 4)
+Judged n rest r place = (k : ℕ) × (s : ℕ) × Part n (2 ^ k) s rest r × (place ≡ 2 ^ k * 2 ^ k / 4)
 
--- the bit t, half of p, is in the root where n has the square with it, and is not where n is below
-bit-in : (n t s square r : ℕ) → Part n (t + t) s square r → square + r + t * t ≤ n → Part n t (s + t) (square + r + t * t) (r / 2 + t * t)
-bit-in n t s square r (e, l, h, f, b) m = rw (e, f) (omega arith, omega arith, omega arith, omega arith, omega arith)
+-- the bit t, half of p, is in the root where rest has what the square grows by with it, and is not where rest is below
+bit-in : (n t s rest r : ℕ) → Part n (t + t) s rest r → r + t * t ≤ rest → Part n t (s + t) (rest - (r + t * t)) (r / 2 + t * t)
+bit-in n t s rest r (e, h, f, b) m = (rw f (omega arith), omega arith, rw f (omega arith), omega arith)
 
-bit-out : (n t s square r : ℕ) → Part n (t + t) s square r → n < square + r + t * t → Part n t s square (r / 2)
-bit-out n t s square r (e, l, h, f, b) m = rw (e, f) (omega arith, omega arith, omega arith, omega arith, omega arith)
+bit-out : (n t s rest r : ℕ) → Part n (t + t) s rest r → rest < r + t * t → Part n t s rest (r / 2)
+bit-out n t s rest r (e, h, f, b) m = (e, omega arith, rw f (omega arith), omega arith)
 
--- the square with that bit has 32 bits
-bit-fits : (n t s square r : ℕ) → Part n (t + t) s square r → 1 ≤ t → square + r + t * t < 4294967296
-bit-fits n t s square r (e, l, h, f, b) m =
-    rw (e, f) (omega (arith, mul-le-mul {n₁ = s + t} {m₁ = s + t} {n₂ = 65535} {m₂ = 65535} (omega arith) (omega arith)))
+-- what the square grows by has 32 bits
+bit-fits : (n t s rest r : ℕ) → Part n (t + t) s rest r → 1 ≤ t → r + t * t < 4294967296
+bit-fits n t s rest r (e, h, f, b) m =
+    rw f (omega (arith, mul-le-mul {n₁ = s + t} {m₁ = s + t} {n₂ = 65535} {m₂ = 65535} (omega arith) (omega arith)))
 
 double : (j : ℕ) → 2 ^ suc j ≡ 2 ^ j + 2 ^ j
 double j = omega (arith, pow-suc 2 j)
@@ -83,28 +83,28 @@ square-below : (j : ℕ) → 2 ^ suc j * 2 ^ suc j / 4 ≡ 2 ^ j * 2 ^ j
 square-below j = rw (double j) (omega arith)
 
 -- a place above 0 is the square of some 2 ^ j
-next-bit : (n square r place : ℕ) → Judged n square r place → 0 < place → (j : ℕ) × (s : ℕ) × Part n (2 ^ j + 2 ^ j) s square r × (place ≡ 2 ^ j * 2 ^ j)
-next-bit n square r place (zero, s, p, e) l = absurd (omega arith)
-next-bit n square r place (suc j, s, p, e) l = (j, s, subst (λ (q : ℕ). Part n q s square r) (double j) p, e ∙ square-below j)
+next-bit : (n rest r place : ℕ) → Judged n rest r place → 0 < place → (j : ℕ) × (s : ℕ) × Part n (2 ^ j + 2 ^ j) s rest r × (place ≡ 2 ^ j * 2 ^ j)
+next-bit n rest r place (zero, s, p, e) l = absurd (omega arith)
+next-bit n rest r place (suc j, s, p, e) l = (j, s, subst (λ (q : ℕ). Part n q s rest r) (double j) p, e ∙ square-below j)
 
 -- a turn
-pub turn-fits : (n square r place : ℕ) → Judged n square r place → 0 < place → square + r + place < 4294967296
-turn-fits n square r place g l =
-    let (j, s, p, e) = next-bit n square r place g l in
-    rw e (bit-fits n (2 ^ j) s square r p (pow-pos j))
+pub turn-fits : (n rest r place : ℕ) → Judged n rest r place → 0 < place → r + place < 4294967296
+turn-fits n rest r place g l =
+    let (j, s, p, e) = next-bit n rest r place g l in
+    rw e (bit-fits n (2 ^ j) s rest r p (pow-pos j))
 
-pub turn-in : (n square r place : ℕ) → Judged n square r place → 0 < place → square + r + place ≤ n → Judged n (square + r + place) (r / 2 + place) (place / 4)
-turn-in n square r place g l m =
-    let (j, s, p, e) = next-bit n square r place g l in
-    rw e (j, s + 2 ^ j, bit-in n (2 ^ j) s square r p (omega arith), refl)
+pub turn-in : (n rest r place : ℕ) → Judged n rest r place → 0 < place → r + place ≤ rest → Judged n (rest - (r + place)) (r / 2 + place) (place / 4)
+turn-in n rest r place g l m =
+    let (j, s, p, e) = next-bit n rest r place g l in
+    rw e (j, s + 2 ^ j, bit-in n (2 ^ j) s rest r p (omega arith), refl)
 
-pub turn-out : (n square r place : ℕ) → Judged n square r place → 0 < place → n < square + r + place → Judged n square (r / 2) (place / 4)
-turn-out n square r place g l m =
-    let (j, s, p, e) = next-bit n square r place g l in
-    (j, s, bit-out n (2 ^ j) s square r p (omega arith), ap (λ (q : ℕ). q / 4) e)
+pub turn-out : (n rest r place : ℕ) → Judged n rest r place → 0 < place → rest < r + place → Judged n rest (r / 2) (place / 4)
+turn-out n rest r place g l m =
+    let (j, s, p, e) = next-bit n rest r place g l in
+    (j, s, bit-out n (2 ^ j) s rest r p (omega arith), ap (λ (q : ℕ). q / 4) e)
 
 -- with the lowest bit judged, r is the root
-pub judged-all : (n square r : ℕ) → Judged n square r 0 → r ≡ rootOf n
-judged-all n square r (zero, s, (e, l, h, f, b), z) = root-unique n r (rw f (omega arith, omega arith))
-judged-all n square r (suc k, s, p, z) =
+pub judged-all : (n rest r : ℕ) → Judged n rest r 0 → r ≡ rootOf n
+judged-all n rest r (zero, s, (e, h, f, b), z) = root-unique n r (rw f (omega arith, omega arith))
+judged-all n rest r (suc k, s, p, z) =
     absurd (omega (arith, square-below k, mul-le-mul {n₁ = 1} {m₁ = 1} {n₂ = 2 ^ k} {m₂ = 2 ^ k} (pow-pos k) (pow-pos k)))

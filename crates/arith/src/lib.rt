@@ -153,21 +153,20 @@ pub fn div(a: i64, b: i64, h: u64) -> Outcome
 }
 
 // The largest whole root of n, bit by bit from the top: 8 turns for a number of 16 bits, 16 for one of 32. With b the bit that is tried and s the
-// root by the bits above it, place is b * b, square is s * s and r is s * 2b: with that bit the square is square + r + place, which has 32 bits.
-// Past the lowest bit r is the root.
+// root by the bits above it, place is b * b, r is s * 2b and rest is n - s * s: with that bit the square is larger by r + place, so the bit is in
+// the root where rest has as much. Past the lowest bit r is the root.
 fn root(n: u64) -> u64
     requires { ⌜ n < 2 ^ 32 ⌝ }
     ensures { λ r. ⌜ r ≡ rootOf n ⌝ }
 {
-    let m = n as u32;
-    let mut square: u32 = 0;
+    let mut rest = n as u32;
     let mut r: u32 = 0;
-    let mut place: u32 = if m < 65536 { 16384 } else { 1073741824 };
+    let mut place: u32 = if rest < 65536 { 16384 } else { 1073741824 };
     while place > 0 {
-        let next = square + r + place;
+        let more = r + place;
         r = r >> 1;
-        if next <= m {
-            square = next;
+        if more <= rest {
+            rest -= more;
             r += place;
         }
         place = place >> 2;

@@ -9,31 +9,31 @@ use Rattle.arith.proofs.root.Statement.{statement}
 use Rattle.arith.proofs.root.Tie as tie
 
 abbrev Inv-loop : tie.InvT-loop
-Inv-loop n m square₀ r₀ place₀ square r place = Judged n square r place
+Inv-loop n rest₀ r₀ place₀ rest r place = Judged n rest r place
 
 abbrev μ-loop : tie.MeasureT-loop
-μ-loop n m square₀ r₀ place₀ square r place = place
+μ-loop n rest₀ r₀ place₀ rest r place = place
 
 loop-holds : tie.Need-loop-holds Inv-loop μ-loop
 loop-holds c =
     ⊎-elim
-    (λ w. rw (w .1) (8, 0, (refl, omega arith, omega arith, refl, omega arith), refl))
-    (λ w. rw (w .1) (16, 0, (refl, omega arith, omega arith, refl, omega arith), refl))
+    (λ w. rw (w .1) (8, 0, (omega arith, omega arith, refl, omega arith), refl))
+    (λ w. rw (w .1) (16, 0, (omega arith, omega arith, refl, omega arith), refl))
     (c .if1 .came)
 
--- the square that a turn tries has 32 bits
-fits : (c : tie.In-loop Inv-loop μ-loop) → c .before .loop .square + c .before .loop .r + c .before .loop .place < 4294967296
+-- what the square grows by has 32 bits
+fits : (c : tie.In-loop Inv-loop μ-loop) → c .before .loop .r + c .before .loop .place < 4294967296
 fits c =
     let l = c .before .loop in
-    turn-fits (c .before .before .before .args .n) (l .square) (l .r) (l .place) (l .inv) (omega arith)
+    turn-fits (c .before .before .before .args .n) (l .rest) (l .r) (l .place) (l .inv) (omega arith)
 
 loop-again : tie.Need-loop-again Inv-loop μ-loop
 loop-again c =
     let n = c .before .before .before .before .before .args .n in
     let l = c .before .before .before .loop in
     ⊎-elim
-    (λ w. rw (w .1, w .2) (turn-in n (l .square) (l .r) (l .place) (l .inv) (omega arith) (omega arith)))
-    (λ w. rw (w .1, w .2) (turn-out n (l .square) (l .r) (l .place) (l .inv) (omega arith) (omega arith)))
+    (λ w. rw (w .1, w .2) (turn-in n (l .rest) (l .r) (l .place) (l .inv) (omega arith) (omega arith)))
+    (λ w. rw (w .1, w .2) (turn-out n (l .rest) (l .r) (l .place) (l .inv) (omega arith) (omega arith)))
     (c .if2 .came)
 
 -- what the loop leaves
@@ -42,7 +42,7 @@ found c =
     let n = c .before .before .before .args .n in
     let l = c .before .loop in
     let z : l .place ≡ 0 = omega arith in
-    judged-all n (l .square) (l .r) (subst (Judged n (l .square) (l .r)) z (l .inv))
+    judged-all n (l .rest) (l .r) (subst (Judged n (l .rest) (l .r)) z (l .inv))
 
 cast-result : tie.Need-cast-result Inv-loop μ-loop
 cast-result c = omega (arith, found c, root-small (c .before .before .before .args .n))
@@ -55,7 +55,6 @@ root-spec =
     μ-loop
     (λ c. omega arith)
     loop-holds
-    (λ c. omega (arith, fits c))
     (λ c. omega (arith, fits (c .before)))
     (λ c. omega (arith, fits (c .before .before)))
     (λ c. omega arith)
