@@ -1,34 +1,20 @@
 -- The law of whole roots: the root's square is at most n, the next number's is above n, there is one such number, and bit by bit from the top finds it. Assumes nothing.
 use mathlib.Core.Path.{_≡_, refl, ap, subst, _∙_}
-use mathlib.Core.Bool.{Bool, true, false}
 use Prim.Native.Nat.{ℕ, zero, suc, _+_, _-_, _*_, _/_, _≤_, _<_, _^_}
 use native.Mathlib.Nat.{mul-le-mul, pow-suc}
 use native.Mathlib.Decide.{decLt}
 use native.Mathlib.Omega.{arith}
-use borrow.Author.Tests.{leb-true, leb-false}
-use lib.Dec.{leb}
 use lib.Pow.{pow-pos}
-use Rattle.ec20.specs.Basics.{pick}
-use Rattle.ec20.specs.Numbers.{rootFrom, rootOf}
+use Rattle.ec20.specs.Numbers.{rootOf}
+use Rattle.ec20.proofs.Laws.{root-low, root-high}
 
 -- r is the largest whole root of n
 abbrev pub Root : ℕ → ℕ → Type 0
 Root n r = (r * r ≤ n) × (n < (r + 1) * (r + 1))
 
--- counting up from r to at most r + k finds it, where it is in between
-counted : (n r k : ℕ) → r * r ≤ n → n < (r + k + 1) * (r + k + 1) → Root n (rootFrom n r k)
-unfolding rootFrom
-counted n r zero low high = (low, omega arith)
-counted n r (suc k) low high = go (leb (suc r * suc r) n) refl (λ l. counted n (suc r) k l (omega arith))
-  where
-    go : (b : Bool) → leb (suc r * suc r) n ≡ b → (suc r * suc r ≤ n → Root n (rootFrom n (suc r) k)) → Root n (pick b (rootFrom n (suc r) k) r)
-    go true e next = next (leb-true (suc r * suc r) n e)
-    go false e next = (low, omega (arith, leb-false (suc r * suc r) n e))
-
 -- the root's square is at most n, and the next number's square is above n
 pub root-law : (n : ℕ) → Root n (rootOf n)
-unfolding rootOf
-root-law n = counted n 0 n (omega arith) (omega arith)
+root-law n = (root-low n, omega (arith, root-high n))
 
 -- squares keep the order
 not-above : (n r s : ℕ) → r * r ≤ n → n < (s + 1) * (s + 1) → r ≤ s
