@@ -154,7 +154,8 @@ pub fn div(a: i64, b: i64, h: u64) -> Outcome
 
 // The largest whole root of n, bit by bit from the top: 8 turns for a number of 16 bits, 16 for one of 32. With b the bit that is tried and s the
 // root by the bits above it, place is b * b, r is s * 2b and rest is n - s * s: with that bit the square is larger by r + place, so the bit is in
-// the root where rest has as much. Past the lowest bit r is the root.
+// the root where rest has as much. Past the lowest bit r is the root. That it is 32 bits, and that the number says how many turns there are, keeps it
+// in the step's loop at no cost to other programs (docs/BENCHMARKS.md, 'What was tried').
 fn root(n: u64) -> u64
     requires { ⌜ n < 2 ^ 32 ⌝ }
     ensures { λ r. ⌜ r ≡ rootOf n ⌝ }
