@@ -15,7 +15,7 @@ use Rattle.ec20.specs.Devices.{ec20}
 use Rattle.ec20.specs.File.{Records, recordsFrom, recordsOf, framed, frameOf}
 use Rattle.ec20.specs.Labels.{firstUnlabelled}
 use Rattle.ec20.specs.Loops.{firstUnsound, tooLong}
-use Rattle.ec20.specs.Walkers.{walked, unsound, stepsWalked}
+use Rattle.ec20.specs.Walkers.{walkOf, walked, unsound, stepsWalked}
 use Rattle.ec20.proofs.Walkers.{walked-unsound, walked-steps}
 use Rattle.ec20.specs.Operands.{firstBad}
 use Rattle.ec20.specs.Rung.{firstBroken}
@@ -25,6 +25,7 @@ use Rattle.ec20.specs.declared.Judged.the-variants.{Fine, Fault}
 use Rattle.ec20.specs.declared.Walked.{Walked}
 use Rattle.ec20.specs.declared.Walked.the-variants.{Done, Bad}
 use Rattle.ec20.specs.declared.Verdict.{Verdict}
+use Rattle.labels.specs.Sound.{Sound}
 use Rattle.loops.specs.Capped.{capped}
 use Rattle.loops.proofs.Told.{unsound-capped, too-long-capped, steps-capped}
 use Rattle.ec20.specs.declared.Verdict.the-variants.{Accepted, Refused}
@@ -40,6 +41,16 @@ goes n w a b e f g = g ∙ rw (sym e ∙ f) refl
 
 apart-walked : {A : Type 0} {m w k : ℕ} → _≡_ {A = Walked} (Bad k) (Done m w) → A
 apart-walked e = let z : _≡_ {A = ℕ} 0 1 = cc in absurd (omega arith)
+
+-- what was walked to its end has its structure right
+done-walk : (x : Walked) {m w : ℕ} → Done m w ≡ capped x → (u : ℕ) × (v : ℕ) × (x ≡ Done u v)
+unfolding capped
+done-walk (Bad k) e = apart-walked (sym e)
+done-walk (Done m w) e = (m, w, refl)
+
+pub sound-walk : (code : Controls) (count : ℕ) {r : Walked} {m w : ℕ} → r ≡ capped (walkOf code count) → r ≡ Done m w → Sound code count
+unfolding Sound
+sound-walk code count e f = done-walk (walkOf code count) (sym f ∙ e)
 
 module _ (rs : Records) where
   -- 7, then 8

@@ -2,7 +2,10 @@
 ghost use Prim.Native.Nat.{_≤_};
 ghost use Rattle.checker.specs.Stages.{stage, fromJumps, fromLoops, fromRungs, fromRecords};
 ghost use Rattle.ec20.specs.Check.{checkOf};
+ghost use Rattle.ec20.specs.Code.{programIn};
+ghost use Rattle.ec20.specs.Control.{controlsOf};
 ghost use Rattle.ec20.specs.File.{recordsFrom};
+ghost use Rattle.labels.specs.Sound.{Sound};
 ghost use Rattle.records.specs.Ranges.{Held};
 ghost use lib.ListN.{length};
 ghost use mathlib.Core.Path.{_≡_};
@@ -11,9 +14,10 @@ use ec20::Judged;
 use ec20::Verdict;
 use ec20::Walked;
 
-// 7 and then 8, of a program of w steps.
+// 7 and then 8, of a program of w steps whose structure is right.
 fn judge_jumps(f: &[u8], first: usize, count: usize, w: usize) -> Verdict
     requires { ⌜ Held (length (now f)) first count ⌝ }
+    requires { ⌜ Sound (controlsOf (programIn (recordsFrom (now f) first count))) count ⌝ }
     ensures { λ r. ⌜ r ≡ stage count w (fromJumps (recordsFrom (now (f .entry)) first count) w) ⌝ }
 {
     match labels::first_unlabelled(f, first, count) {

@@ -1,5 +1,5 @@
 // Labels and jumps, refusal 7; and the two searches, for the NEXT of a FOR and for a label.
-ghost use Prim.Native.Nat.{ℕ, _+_, _-_, _<_, _^_};
+ghost use Prim.Native.Nat.{ℕ, _+_, _-_, _<_, _≤_, _^_};
 ghost use Rattle.ec20.specs.Basics.{firstAt, refusedAt};
 ghost use Rattle.ec20.specs.Code.{programIn};
 ghost use Rattle.ec20.specs.Control.{controlsOf, marks, foundInBody, firstLabel};
@@ -7,7 +7,9 @@ ghost use Rattle.ec20.specs.Walkers.{turnOf};
 ghost use Rattle.ec20.specs.File.{recordsFrom};
 ghost use Rattle.ec20.specs.Labels.{same, labelFault, firstUnlabelled};
 ghost use Rattle.ec20.specs.declared.Control.the-variants.{Closes, Jumps, Marks};
+ghost use Rattle.labels.specs.Homes.{Homes, homeAfter};
 ghost use Rattle.labels.specs.Places.{Places};
+ghost use Rattle.labels.specs.Sound.{Sound};
 ghost use Rattle.labels.specs.Want.{wantOf};
 ghost use Rattle.records.specs.Ranges.{Held};
 ghost use lib.Dec.{eqb};
@@ -180,18 +182,66 @@ pub fn place(f: &[u8], first: usize, count: usize, table: &[usize; 128], l: usiz
     label(f, first, count, l)
 }
 
+// The loop body that the record after record k stands in directly: the FOR's own after a FOR, the one around it after its NEXT.
+fn home_after(i: Control, k: usize, home: u16, table: &[u16; 2000]) -> u16
+    requires { ⌜ k < 2000 ⌝ }
+    requires { ⌜ home ≤ 2000 ⌝ }
+    ensures { λ r. ⌜ r ≡ homeAfter i k home (now (table .entry)) ⌝ }
+{
+    match i {
+        Control::Plain => home,
+        Control::Opens(_) => k as u16 + 1,
+        Control::Closes => {
+            if home == 0 {
+                0
+            } else {
+                table[home as usize - 1]
+            }
+        }
+        Control::Jumps(_) => home,
+        Control::Marks(_) => home,
+        Control::Ends => home,
+    }
+}
+
+// The loop body that each record stands in directly, told by its FOR: one more than the FOR's record, 0 outside all loops.
+fn homes(f: &[u8], first: usize, count: usize) -> [u16; 2000]
+    requires { ⌜ Held (length (now f)) first count ⌝ }
+    ensures { λ r. ⌜ Homes (controlsOf (programIn (recordsFrom (now (f .entry)) first count))) count r ⌝ }
+{
+    let mut table = [0u16; 2000];
+    let mut home: u16 = 0;
+    let mut k = 0;
+    while k < count {
+        table[k] = home;
+        home = home_after(decode::control_at(f, first, count, k), k, home, &table);
+        k += 1;
+    }
+    table
+}
+
 // A CJ's label, its first LBL, must stand later and directly in the same loop body, in no loop inside it.
-fn misplaced(f: &[u8], first: usize, count: usize, table: &[usize; 128], k: usize, l: usize) -> bool
+fn misplaced(
+    f: &[u8],
+    first: usize,
+    count: usize,
+    table: &[usize; 128],
+    homes: &[u16; 2000],
+    k: usize,
+    l: usize,
+) -> bool
     requires { ⌜ Held (length (now f)) first count ⌝ }
     requires { ⌜ Places (controlsOf (programIn (recordsFrom (now f) first count))) count (now table) ⌝ }
+    requires { ⌜ Homes (controlsOf (programIn (recordsFrom (now f) first count))) count (now homes) ⌝ }
+    requires { ⌜ Sound (controlsOf (programIn (recordsFrom (now f) first count))) count ⌝ }
     requires { ⌜ k < count ⌝ }
+    requires { ⌜ controlsOf (programIn (recordsFrom (now f) first count)) k ≡ Jumps l ⌝ }
     ensures { λ r. ⌜ r ≡ labelFault (controlsOf (programIn (recordsFrom (now (f .entry)) first count))) count k (Jumps l) ⌝ }
 {
-    let from = k + 1;
-    !alike(
-        place(f, first, count, table, l),
-        find(f, first, count, from, Want::Place(l)),
-    )
+    match place(f, first, count, table, l) {
+        Found::At(t) => { if k < t { homes[t] != homes[k] } else { true } }
+        Found::Nowhere => true,
+    }
 }
 
 // A label set twice: the later LBL is not the first of its label.
@@ -204,9 +254,18 @@ fn set_twice(f: &[u8], first: usize, count: usize, table: &[usize; 128], k: usiz
 }
 
 // Does record k set a label twice, or jump to one that doesn't stand where it must?
-fn label_fault(f: &[u8], first: usize, count: usize, table: &[usize; 128], k: usize) -> bool
+fn label_fault(
+    f: &[u8],
+    first: usize,
+    count: usize,
+    table: &[usize; 128],
+    homes: &[u16; 2000],
+    k: usize,
+) -> bool
     requires { ⌜ Held (length (now f)) first count ⌝ }
     requires { ⌜ Places (controlsOf (programIn (recordsFrom (now f) first count))) count (now table) ⌝ }
+    requires { ⌜ Homes (controlsOf (programIn (recordsFrom (now f) first count))) count (now homes) ⌝ }
+    requires { ⌜ Sound (controlsOf (programIn (recordsFrom (now f) first count))) count ⌝ }
     requires { ⌜ k < count ⌝ }
     ensures { λ r. ⌜ r ≡ labelFault (controlsOf (programIn (recordsFrom (now (f .entry)) first count))) count k (controlsOf (programIn (recordsFrom (now (f .entry)) first count)) k) ⌝ }
 {
@@ -214,7 +273,7 @@ fn label_fault(f: &[u8], first: usize, count: usize, table: &[usize; 128], k: us
         Control::Plain => false,
         Control::Opens(_) => false,
         Control::Closes => false,
-        Control::Jumps(l) => misplaced(f, first, count, table, k, l),
+        Control::Jumps(l) => misplaced(f, first, count, table, homes, k, l),
         Control::Marks(l) => set_twice(f, first, count, table, k, l),
         Control::Ends => false,
     }
@@ -250,15 +309,24 @@ fn first_labelled(f: &[u8], first: usize, count: usize) -> usize
     k
 }
 
-// The first record from `from` on that is refused, the labels' places being known.
-fn first_from(f: &[u8], first: usize, count: usize, table: &[usize; 128], from: usize) -> Judged
+// The first record from `from` on that is refused, the labels' places and the records' loop bodies being known.
+fn first_from(
+    f: &[u8],
+    first: usize,
+    count: usize,
+    table: &[usize; 128],
+    homes: &[u16; 2000],
+    from: usize,
+) -> Judged
     requires { ⌜ Held (length (now f)) first count ⌝ }
     requires { ⌜ Places (controlsOf (programIn (recordsFrom (now f) first count))) count (now table) ⌝ }
+    requires { ⌜ Homes (controlsOf (programIn (recordsFrom (now f) first count))) count (now homes) ⌝ }
+    requires { ⌜ Sound (controlsOf (programIn (recordsFrom (now f) first count))) count ⌝ }
     ensures { λ r. ⌜ r ≡ refusedAt 7 (firstAt (λ j. labelFault (controlsOf (programIn (recordsFrom (now (f .entry)) first count))) count j ((controlsOf (programIn (recordsFrom (now (f .entry)) first count))) j)) from (count - from)) ⌝ }
 {
     let mut k = from;
     while k < count {
-        if label_fault(f, first, count, table, k) {
+        if label_fault(f, first, count, table, homes, k) {
             return Judged::Fault(7, k);
         }
         k += 1;
@@ -266,15 +334,18 @@ fn first_from(f: &[u8], first: usize, count: usize, table: &[usize; 128], from: 
     Judged::Fine
 }
 
-// The first such record. The places of the labels are looked for only where a record sets a label or jumps to one.
+// The first such record, of a program that 6 does not refuse. The places of the labels, and the loop body of each record, are looked for only
+// where a record sets a label or jumps to one.
 pub fn first_unlabelled(f: &[u8], first: usize, count: usize) -> Judged
     requires { ⌜ Held (length (now f)) first count ⌝ }
+    requires { ⌜ Sound (controlsOf (programIn (recordsFrom (now f) first count))) count ⌝ }
     ensures { λ r. ⌜ r ≡ firstUnlabelled (controlsOf (programIn (recordsFrom (now (f .entry)) first count))) count ⌝ }
 {
     let from = first_labelled(f, first, count);
     if from < count {
         let table = places(f, first, count);
-        return first_from(f, first, count, &table, from);
+        let bodies = homes(f, first, count);
+        return first_from(f, first, count, &table, &bodies, from);
     }
     Judged::Fine
 }

@@ -11,14 +11,19 @@ use Rattle.labels.proofs.first_from.Statement.{statement}
 use Rattle.labels.proofs.first_from.Tie as tie
 
 abbrev Inv-loop : tie.InvT-loop
-Inv-loop f first count table from k₀ k =
+Inv-loop f first count table homes from k₀ k =
     refusedAt 7 (firstAt (λ j. labelFault (controlsOf (programIn (recordsFrom f first count))) count j ((controlsOf (programIn (recordsFrom f first count))) j)) from (count - from)) ≡ refusedAt 7 (firstAt (λ j. labelFault (controlsOf (programIn (recordsFrom f first count))) count j ((controlsOf (programIn (recordsFrom f first count))) j)) k (count - k))
 
 abbrev μ-loop : tie.MeasureT-loop
-μ-loop f first count table from k₀ k = count - k
+μ-loop f first count table homes from k₀ k = count - k
 
 loop-holds : tie.Need-loop-holds Inv-loop μ-loop
 loop-holds c = refl
+
+label-fault-requires : tie.Need-label-fault-requires Inv-loop μ-loop
+label-fault-requires c κs =
+    let p = c .before .before .before .pre in
+    (p .0, (p .1 .0, (p .1 .1 .0, (p .1 .1 .1, c .loop-test .taken))))
 
 returns : tie.Need-returns Inv-loop μ-loop
 returns c =
@@ -42,7 +47,7 @@ first-from-spec =
     Inv-loop
     μ-loop
     loop-holds
-    (λ c κs. search needs)
+    label-fault-requires
     returns
     (λ c. search needs)
     (λ c. search needs)

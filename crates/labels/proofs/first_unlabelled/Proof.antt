@@ -6,7 +6,7 @@ use Rattle.labels.proofs.first_unlabelled.Statement.{statement}
 use Rattle.labels.proofs.first_unlabelled.Tie as tie
 
 returns : tie.Need-returns
-returns c = c .first-from .ensures ∙ sym (c .before .before .before .before .first-labelled .ensures)
+returns c = c .first-from .ensures ∙ sym (c .before .before .before .before .before .before .first-labelled .ensures)
 
 returns-2 : tie.Need-returns-2
 returns-2 c =
@@ -16,6 +16,7 @@ pub first-unlabelled-spec : {M : Type 1} → statement M
 first-unlabelled-spec =
     tie.close
     (tie.spec
+    (λ c κs. search needs)
     (λ c κs. search needs)
     (λ c κs. search needs)
     (λ c κs. search needs)

@@ -5,6 +5,12 @@ use Rattle.labels.proofs.Laws.{as-told}
 use Rattle.labels.proofs.label_fault.Statement.{statement}
 use Rattle.labels.proofs.label_fault.Tie as tie
 
+misplaced-requires : tie.Need-misplaced-requires
+misplaced-requires c κs =
+    let p = c .before .before .before .before .before .pre in
+    let q = sym (c .before .before .before .control-at .ensures) ∙ c .before .l .given .1 in
+    (p .0, (p .1 .0, (p .1 .1 .0, (p .1 .1 .1 .0, (p .1 .1 .1 .1, q)))))
+
 returns : tie.Need-returns
 unfolding labelFault
 returns c = rw (sym (c .before .before .control-at .ensures) ∙ c .enum-told .given .1)
@@ -36,7 +42,7 @@ label-fault-spec =
     (λ c. search needs)
     (λ c. search needs)
     (λ c. search needs)
-    (λ c κs. search needs)
+    misplaced-requires
     (λ c. search needs)
     (λ c κs. search needs)
     (λ c. search needs)
