@@ -16,8 +16,8 @@ use memories::tables;
 use memory_scans::pairs;
 use turns::images;
 
-// n scans of each program, the old one over memory a, the new one over memory b, in which block and place are exchanged. The inputs are drawn anew
-// before each. Of an accepted move none differs.
+// n scans of each program, which is checked and made ready once, the old one over memory a, the new one over memory b, in which block and place are
+// exchanged. The inputs are drawn anew before each. Of an accepted move none differs.
 fn scans(
     old: &[u8],
     new: &[u8],
@@ -30,12 +30,16 @@ fn scans(
 ) -> Sum
     ensures { λ r. ⌜ (MovedTo (now (old .entry)) (block (w .start) (w .length)) (w .place) (now (new .entry)) → memoryOf (now (b .entry)) ≡ withExchange (block (w .start) (w .length)) (w .place) (memoryOf (now (a .entry))) → r .differ ≡ 0) ⌝ }
 {
+    let p = engine::make_ready(old);
+    let old_goes = engine::look_up(old, p);
+    let q = engine::make_ready(new);
+    let new_goes = engine::look_up(new, q);
     let mut s = shown::begun(out);
     let mut k: u32 = 0;
     let mut state: u32 = 1;
     while k < n {
         state = images::draw_inputs(a, b, state);
-        let t = pairs::pair(old, new, a, b, w, 1, 1_000_000);
+        let t = pairs::pair(old, p, &old_goes, new, q, &new_goes, a, b, w, 1, 1_000_000);
         s = shown::scan(s, k, n, t, err);
         k += 1;
     }

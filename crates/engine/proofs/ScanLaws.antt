@@ -2,10 +2,11 @@
 use Prim.Native.Nat.{ℕ, _+_, _*_, _<_}
 use mathlib.Core.Bool.{Bool, true, false, _&&_}
 use mathlib.Core.List.{List}
-use mathlib.Core.Path.{_≡_, refl, sym, ap, subst, _∙_}
+use mathlib.Core.Path.{_≡_, refl, sym, ap, ap₂, subst, _∙_}
 use native.Mathlib.Decide.{decLt}
 use native.Mathlib.Omega.{arith}
 use lib.Dec.{leb}
+use lib.ListN.{length}
 use Rattle.ec20.proofs.Laws.{no-fault}
 use Rattle.ec20.proofs.NoFault.{record-fine}
 use Rattle.ec20.proofs.Tests.{both, differ}
@@ -13,8 +14,9 @@ use Rattle.ec20.specs.Table.{rowOf}
 use Rattle.ec20.specs.declared.Judged.the-variants.{Fine}
 use Rattle.ec20.specs.declared.Row.{Row}
 use Rattle.instructions.proofs.Rows.{row-past}
+use Rattle.records.specs.Ranges.{Held}
 use Rattle.step.specs.Ready.{Known}
-use Rattle.checker.proofs.Accepted.{whole-records}
+use Rattle.checker.proofs.Accepted.{accepted-framed, accepted-fine, whole-records}
 use Rattle.ec20.specs.Check.{checkOf}
 use Rattle.ec20.specs.Code.{Program, programIn, programOf}
 use Rattle.ec20.specs.Devices.{ec20}
@@ -27,26 +29,25 @@ use Rattle.ec20.specs.declared.Frame.the-variants.{Whole}
 use Rattle.ec20.specs.declared.Scanned.the-variants.{Refused}
 use Rattle.ec20.specs.declared.Verdict.{Verdict}
 use Rattle.ec20.specs.declared.Verdict.the-variants.{Accepted, Refused as Unfit}
-use Rattle.engine.specs.Runs.{fittingScan}
+use Rattle.engine.specs.Made.{Fit, Made}
+use Rattle.engine.specs.declared.Ready.{Ready}
 
-module _ (f : List ℕ) (e b : ℕ) (c : Memory) where
-  -- by the verdict
-  pub unfit-scan : {v : Verdict} {n k : ℕ} → v ≡ checkOf f → v ≡ Unfit n k → scan (Refused n k) c ≡ scanOf f e b c
+-- a scan of a file that was made ready
+module _ {f : List ℕ} {p : Ready} (made : Made f p) (e b : ℕ) (c : Memory) where
+  -- refused by the check
+  pub unfit-scan : p .accepted ≡ false → scan (Refused (p .number) (p .at)) c ≡ scanOf f e b c
   unfolding scanOf scanFor checkOf
-  unfit-scan g h = rw (sym g ∙ h) refl
+  unfit-scan h = rw (made .unfit h) refl
 
-  pub fit-scan : {v : Verdict} {n w : ℕ} {o : Scan} → v ≡ checkOf f → v ≡ Accepted n w → o ≡ fittingScan f e b c → o ≡ scanOf f e b c
-  unfolding scanOf scanFor checkOf fittingScan
-  fit-scan g h q = q ∙ rw (sym g ∙ h) refl
+  -- an accepted one, by sizes and elapsed units
+  pub nine : p .accepted ≡ true → {s : Bool} → s ≡ sized ec20 c → (s && leb e 32767) ≡ false → scan (Refused 9 0) c ≡ scanOf f e b c
+  unfolding scanOf scanFor checkOf fitting
+  nine a g h = rw (made .fit a .accepted .2, sym g, h) refl
 
-  -- by sizes and elapsed units
-  pub nine : {s : Bool} → s ≡ sized ec20 c → (s && leb e 32767) ≡ false → scan (Refused 9 0) c ≡ fittingScan f e b c
-  unfolding fittingScan fitting
-  nine g h = rw (sym g, h) refl
-
-  pub fits : {s : Bool} {o : Scan} {p : Program} → s ≡ sized ec20 c → (s && leb e 32767) ≡ true → p ≡ programOf f → o ≡ runScan ec20 p e b c → o ≡ fittingScan f e b c
-  unfolding fittingScan fitting
-  fits g h r q = q ∙ rw (r, sym g, h) refl
+  pub fits : (a : p .accepted ≡ true) {s : Bool} {o : Scan} → s ≡ sized ec20 c → (s && leb e 32767) ≡ true
+      → o ≡ runScan ec20 (programIn (recordsFrom f (p .first) (p .count))) e b c → o ≡ scanOf f e b c
+  unfolding scanOf scanFor checkOf fitting
+  fits a g h q = q ∙ rw (made .fit a .program, made .fit a .accepted .2, sym g, h) refl
 
 -- a whole frame names the file's records
 pub whole-program : (f : List ℕ) {x : Frame} {first count : ℕ} → framed f ≡ true → x ≡ frameOf f → x ≡ Whole first count → programIn (recordsFrom f first count) ≡ programOf f
@@ -72,3 +73,26 @@ records-known f first count e k h =
 pub whole-known : (f : List ℕ) {x : Frame} {first count : ℕ} → firstBad ec20 (recordsOf f) ≡ Fine → x ≡ frameOf f → x ≡ Whole first count → Known f first count
 whole-known f {first = first} {count = count} e g w =
     records-known f first count (subst (λ (rs : Records). firstBad ec20 rs ≡ Fine) (sym (whole-records f g w)) e)
+
+-- ---- what is made ready of a file
+
+-- of a refused one
+pub made-unfit : (f : List ℕ) (p : Ready) {v : Verdict} {n k : ℕ} → v ≡ checkOf f → v ≡ Unfit n k → (p .accepted ≡ false) × (p .number ≡ n) × (p .at ≡ k)
+    → Made f p
+made-unfit f p e g h =
+    record { unfit = λ _. sym e ∙ g ∙ sym (ap₂ Unfit (h .1) (h .2)); fit = λ a. differ (sym a ∙ h .0) }
+
+-- of an accepted one
+pub made-fit : (f : List ℕ) (p : Ready) {v : Verdict} {n w : ℕ} {x : Frame} {first count : ℕ} → v ≡ checkOf f → v ≡ Accepted n w → x ≡ frameOf f
+    → x ≡ Whole first count → Held (length f) first count → (p .accepted ≡ true) × (p .first ≡ first) × (p .count ≡ count) → Made f p
+made-fit f p {n = n} {w = w} e g k o held h =
+    let whole : frameOf f ≡ Whole (p .first) (p .count) = sym k ∙ o ∙ sym (ap₂ Whole (h .1) (h .2)) in
+    record {
+      unfit = λ a. differ (sym (h .0) ∙ a);
+      fit = λ a. record {
+        accepted = (n, w, sym e ∙ g);
+        held = rw (h .1, h .2) held;
+        program = whole-program f (accepted-framed f e g) (sym whole) refl;
+        known = whole-known f (accepted-fine f e g) (sym whole) refl;
+      };
+    }

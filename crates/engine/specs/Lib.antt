@@ -1,2 +1,2 @@
--- A scan of a program that the check accepts.
-pub mod Runs
+-- What is found out of a file once, for any number of scans of it.
+pub mod Made

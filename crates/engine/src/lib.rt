@@ -1,17 +1,9 @@
-// A scan: the file is checked, then its program runs over the lent memory.
-ghost use Prim.Native.Nat.{_≤_};
+// A scan: the file is checked and made ready, then its program runs over the lent memory. Who scans one file often makes it ready once.
 ghost use Rattle.ec20.specs.Devices.{ec20};
-ghost use Rattle.ec20.specs.Code.{programIn};
-ghost use Rattle.ec20.specs.File.{recordsFrom, recordsOf, framed};
 ghost use Rattle.ec20.specs.Memory.{memory, sized};
-ghost use Rattle.ec20.specs.Operands.{firstBad};
-ghost use Rattle.ec20.specs.Scan.{scan, runScan, scanOf, plainScan};
-ghost use Rattle.ec20.specs.declared.Judged.the-variants.{Fine};
-ghost use Rattle.engine.specs.Runs.{fittingScan};
-ghost use Rattle.records.specs.Ranges.{Held};
-ghost use Rattle.step.specs.Ready.{Known};
-ghost use lib.ListN.{length};
-ghost use mathlib.Core.Bool.{true};
+ghost use Rattle.ec20.specs.Scan.{scan, scanOf, plainScan};
+ghost use Rattle.engine.specs.Made.{Made, Goes};
+ghost use mathlib.Core.Bool.{true, false};
 ghost use mathlib.Core.Path.{_≡_};
 use ec20::Frame;
 use ec20::Scanned;
@@ -30,47 +22,74 @@ fn sizes_fit(x: &[u8], y: &[u8], m: &[u8], sm: &[u8], t: &[u8], d: &[i16], tv: &
         & (tv.len() == 256)
 }
 
-// A run of the records: SM0 is turned on, the instruction table is made, and where FOR 0 and CJ go is looked up, each once.
-fn prepared_run(
-    f: &[u8],
-    first: usize,
-    count: usize,
-    e: usize,
-    budget: usize,
-    x: &[u8],
-    y: &mut [u8],
-    m: &mut [u8],
-    sm: &mut [u8],
-    t: &mut [u8],
-    d: &mut [i16],
-    tv: &mut [i16],
-) -> Scanned
-    requires { ⌜ Held (length (now f)) first count × Known (now f) first count × (e ≤ 32767) ⌝ }
-    ensures { λ r. ⌜ scan r (memory (now (x .entry)) (now (y .exit)) (now (m .exit)) (now (sm .exit)) (now (t .exit)) (now (d .exit)) (now (tv .exit))) ≡ runScan ec20 (programIn (recordsFrom (now (f .entry)) first count)) e budget (memory (now (x .entry)) (now (y .entry)) (now (m .entry)) (now (sm .entry)) (now (t .entry)) (now (d .entry)) (now (tv .entry))) ⌝ }
-{
-    let rows = instructions::table();
-    let goes = jumps::prepare(f, first, count);
-    bits::put_bit(sm, 0, 1);
-    runs::run(
-        &rows,
-        f,
-        first,
-        count,
-        &goes,
-        e,
-        budget,
-        x,
-        y,
-        m,
-        sm,
-        t,
-        d,
-        tv,
-    )
+// What the check finds of a file, once for any number of scans of it: whether it accepts the file; if not, the number that refuses it and the record
+// told; if so, where its records begin and how many there are.
+pub struct Ready {
+    pub accepted: bool,
+    pub number: usize,
+    pub at: usize,
+    pub first: usize,
+    pub count: usize,
 }
 
-// A scan of an accepted program: 9, or the run.
-fn scan_accepted(
+// Of a file that the check refuses.
+fn unfit(number: usize, at: usize) -> Ready
+    ensures { λ r. ⌜ (r .accepted ≡ false) × (r .number ≡ number) × (r .at ≡ at) ⌝ }
+{
+    Ready {
+        accepted: false,
+        number,
+        at,
+        first: 0,
+        count: 0,
+    }
+}
+
+// Of an accepted file, whose records are `count` from the byte `first` on.
+fn fit(first: usize, count: usize) -> Ready
+    ensures { λ r. ⌜ (r .accepted ≡ true) × (r .first ≡ first) × (r .count ≡ count) ⌝ }
+{
+    Ready {
+        accepted: true,
+        number: 0,
+        at: 0,
+        first,
+        count,
+    }
+}
+
+// The file is checked.
+pub fn make_ready(f: &[u8]) -> Ready
+    ensures { λ r. ⌜ Made (now (f .entry)) r ⌝ }
+{
+    match checker::check(f) {
+        Verdict::Refused { number, record } => unfit(number, record),
+        Verdict::Accepted {
+            records: _,
+            steps: _,
+        } => match records::frame(f) {
+            Frame::Whole { first, count } => fit(first, count),
+            Frame::Broken => unfit(1, 0),
+        },
+    }
+}
+
+// Where FOR 0 and CJ go, looked up once for any number of scans; of a refused file nothing is.
+pub fn look_up(f: &[u8], p: Ready) -> [usize; 2000]
+    requires { ⌜ Made (now f) p ⌝ }
+    ensures { λ r. ⌜ Goes (now (f .entry)) p r ⌝ }
+{
+    if p.accepted {
+        return jumps::prepare(f, p.first, p.count);
+    }
+    [0usize; 2000]
+}
+
+// A scan of a file that was made ready, over the lent memory, with elapsed units and a budget of steps: what a scan of the file is, with nothing
+// checked or looked up again. SM0 is turned on first. A refused call changes nothing.
+pub fn scan_ready(
+    p: Ready,
+    goes: &[usize; 2000],
     f: &[u8],
     x: &[u8],
     y: &mut [u8],
@@ -79,28 +98,44 @@ fn scan_accepted(
     t: &mut [u8],
     d: &mut [i16],
     tv: &mut [i16],
-    elapsed: usize,
-    budget: usize,
+    elapsed: u32,
+    budget: u32,
 ) -> Scanned
-    requires { ⌜ (framed (now f) ≡ true) × (firstBad ec20 (recordsOf (now f)) ≡ Fine) ⌝ }
-    ensures { λ r. ⌜ scan r (memory (now (x .entry)) (now (y .exit)) (now (m .exit)) (now (sm .exit)) (now (t .exit)) (now (d .exit)) (now (tv .exit))) ≡ fittingScan (now (f .entry)) elapsed budget (memory (now (x .entry)) (now (y .entry)) (now (m .entry)) (now (sm .entry)) (now (t .entry)) (now (d .entry)) (now (tv .entry))) ⌝ }
+    requires { ⌜ Made (now f) p ⌝ }
+    requires { ⌜ Goes (now f) p (now goes) ⌝ }
+    ensures { λ r. ⌜ scan r (memory (now (x .entry)) (now (y .exit)) (now (m .exit)) (now (sm .exit)) (now (t .exit)) (now (d .exit)) (now (tv .exit))) ≡ scanOf (now (f .entry)) elapsed budget (memory (now (x .entry)) (now (y .entry)) (now (m .entry)) (now (sm .entry)) (now (t .entry)) (now (d .entry)) (now (tv .entry))) ⌝ }
 {
-    if sizes_fit(x, y, m, sm, t, d, tv) & (elapsed <= 32767) {
-        match records::frame(f) {
-            Frame::Whole { first, count } => {
-                return prepared_run(f, first, count, elapsed, budget, x, y, m, sm, t, d, tv);
-            }
-            Frame::Broken => {
-                return Scanned::Refused {
-                    number: 1,
-                    record: 0,
-                };
-            }
+    if p.accepted {
+        let e = elapsed as usize;
+        if sizes_fit(x, y, m, sm, t, d, tv) & (e <= 32767) {
+            let rows = instructions::table();
+            bits::put_bit(sm, 0, 1);
+            let n = budget as usize;
+            return runs::run(
+                &rows,
+                f,
+                p.first,
+                p.count,
+                goes,
+                e,
+                n,
+                x,
+                y,
+                m,
+                sm,
+                t,
+                d,
+                tv,
+            );
         }
+        return Scanned::Refused {
+            number: 9,
+            record: 0,
+        };
     }
     Scanned::Refused {
-        number: 9,
-        record: 0,
+        number: p.number,
+        record: p.at,
     }
 }
 
@@ -119,13 +154,9 @@ pub fn scan_file(
 ) -> Scanned
     ensures { λ r. ⌜ scan r (memory (now (x .entry)) (now (y .exit)) (now (m .exit)) (now (sm .exit)) (now (t .exit)) (now (d .exit)) (now (tv .exit))) ≡ scanOf (now (f .entry)) elapsed budget (memory (now (x .entry)) (now (y .entry)) (now (m .entry)) (now (sm .entry)) (now (t .entry)) (now (d .entry)) (now (tv .entry))) ⌝ }
 {
-    match checker::check(f) {
-        Verdict::Refused { number, record } => Scanned::Refused { number, record },
-        Verdict::Accepted {
-            records: _,
-            steps: _,
-        } => scan_accepted(f, x, y, m, sm, t, d, tv, elapsed as usize, budget as usize),
-    }
+    let p = make_ready(f);
+    let goes = look_up(f, p);
+    scan_ready(p, &goes, f, x, y, m, sm, t, d, tv, elapsed, budget)
 }
 
 // The scan that takes no budget uses 1,000,000 steps.

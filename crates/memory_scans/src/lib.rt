@@ -1,15 +1,17 @@
-// A scan over the bytes of a memory file. What it makes of the memory stands in specs/Scans.antt. It is promised of the tables that the bytes mean, and
+// A scan over the bytes of a memory file, of any file, or of one that was made ready for many. What it makes of the memory stands in specs/Scans.antt. It is promised of the tables that the bytes mean, and
 // of the bytes. pairs: a scan of an old program and one of the moved one, side by side.
 pub mod pairs;
 
 ghost use Prim.Native.Nat.{ℕ, _≤_};
 ghost use Rattle.ec20.specs.Basics.{pick};
 ghost use Rattle.ec20.specs.declared.Scanned.the-variants.{Refused};
+ghost use Rattle.engine.specs.Made.{Made, Goes};
 ghost use Rattle.image.specs.Image.{memoryOf, imageOf};
 ghost use Rattle.memory_scans.specs.Scans.{scanIn};
 ghost use lib.Dec.{eqb};
 ghost use mathlib.Core.Path.{_≡_};
 use ec20::Scanned;
+use engine::Ready;
 use memories::tables;
 
 // A memory file of another size is lent as an X table with no entry, which is refused by 9 where nothing ahead of it holds.
@@ -19,8 +21,19 @@ fn entries(size: usize) -> usize
     if size == 16890 { 32 } else { 0 }
 }
 
-// The scan over the memory of the image, which is then the one after it. size: how many bytes the memory file has. A refused one changes no byte.
-pub fn scan(f: &[u8], image: &mut [u8; 16890], size: usize, elapsed: u32, budget: u32) -> Scanned
+// The scan of a file that was made ready, over the memory of the image, which is then the one after it. size: how many bytes the memory file has. A
+// refused one changes no byte.
+pub fn scan_ready(
+    p: Ready,
+    goes: &[usize; 2000],
+    f: &[u8],
+    image: &mut [u8; 16890],
+    size: usize,
+    elapsed: u32,
+    budget: u32,
+) -> Scanned
+    requires { ⌜ Made (now f) p ⌝ }
+    requires { ⌜ Goes (now f) p (now goes) ⌝ }
     ensures { λ r. ⌜ r ≡ scanIn (now (f .entry)) size elapsed budget (memoryOf (now (image .entry))) .answer ⌝ }
     ensures { λ _. ⌜ memoryOf (now (image .exit)) ≡ scanIn (now (f .entry)) size elapsed budget (memoryOf (now (image .entry))) .mem ⌝ }
     ensures { λ _. ⌜ now (image .exit) ≡ imageOf (scanIn (now (f .entry)) size elapsed budget (memoryOf (now (image .entry))) .mem) ⌝ }
@@ -44,7 +57,9 @@ pub fn scan(f: &[u8], image: &mut [u8; 16890], size: usize, elapsed: u32, budget
         &mut tv,
     );
     let n = entries(size);
-    let s = engine::scan_file(
+    let s = engine::scan_ready(
+        p,
+        goes,
         f,
         &x[..n],
         &mut y,
@@ -58,4 +73,16 @@ pub fn scan(f: &[u8], image: &mut [u8; 16890], size: usize, elapsed: u32, budget
     );
     image::join(&x, &y, &m, &sm, &t, &d, &tv, image);
     s
+}
+
+// The same of any file, which is made ready first.
+pub fn scan(f: &[u8], image: &mut [u8; 16890], size: usize, elapsed: u32, budget: u32) -> Scanned
+    ensures { λ r. ⌜ r ≡ scanIn (now (f .entry)) size elapsed budget (memoryOf (now (image .entry))) .answer ⌝ }
+    ensures { λ _. ⌜ memoryOf (now (image .exit)) ≡ scanIn (now (f .entry)) size elapsed budget (memoryOf (now (image .entry))) .mem ⌝ }
+    ensures { λ _. ⌜ now (image .exit) ≡ imageOf (scanIn (now (f .entry)) size elapsed budget (memoryOf (now (image .entry))) .mem) ⌝ }
+    ensures { λ r. ⌜ ((m k : ℕ) → r ≡ Refused m k → now (image .exit) ≡ now (image .entry)) ⌝ }
+{
+    let p = engine::make_ready(f);
+    let goes = engine::look_up(f, p);
+    scan_ready(p, &goes, f, image, size, elapsed, budget)
 }

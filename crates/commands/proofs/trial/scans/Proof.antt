@@ -8,19 +8,24 @@ use Rattle.commands.proofs.trial.scans.Statement.{statement}
 use Rattle.commands.proofs.trial.scans.Tie as tie
 
 abbrev Inv-loop : tie.InvT-loop
-Inv-loop old new a₀ b₀ w n out err s₀ k₀ state₀ a b s k state = (k ≤ n) × (n ≤ 4294967295) × None-differs w old new a₀ b₀ (s .differ) a b
+Inv-loop old new a₀ b₀ w n out err p old-goes q new-goes s₀ k₀ state₀ a b s k state = (k ≤ n) × (n ≤ 4294967295) × None-differs w old new a₀ b₀ (s .differ) a b
 
 abbrev μ-loop : tie.MeasureT-loop
-μ-loop old new a₀ b₀ w n out err s₀ k₀ state₀ a b s k state = n - k
+μ-loop old new a₀ b₀ w n out err p old-goes q new-goes s₀ k₀ state₀ a b s k state = n - k
 
 loop-holds : tie.Need-loop-holds Inv-loop μ-loop
 loop-holds c = (omega arith, search needs, λ m e. (c .begun .ensures .1, e))
 
+pair-requires : tie.Need-pair-requires Inv-loop μ-loop
+pair-requires c κs =
+    let ready = c .before .before .before .before .before .before .before .before .before .before in
+    ((ready .before .before .before .make-ready .ensures, ready .before .before .look-up .ensures), (ready .before .make-ready2 .ensures, ready .look-up2 .ensures))
+
 loop-again : tie.Need-loop-again Inv-loop μ-loop
 loop-again c =
-    let turn = c .before .before .before .before .before .before .before .before in
-    let drew = c .before .before .before .before .draw-inputs .ensures in (
-      omega (arith, c .before .before .before .before .before .before .before .loop-test .taken),
+    let turn = c .before .before .before .before .before .before .before .before .before .before in
+    let drew = c .before .before .before .before .before .before .draw-inputs .ensures in (
+      omega (arith, c .before .before .before .before .before .before .before .before .before .loop-test .taken),
       omega arith,
       λ m e.
           let so-far = turn .loop .inv .2 m e in
@@ -38,9 +43,13 @@ scans-spec =
     Inv-loop
     μ-loop
     (λ c κs. search needs)
+    (λ c κs. search needs)
+    (λ c κs. search needs)
+    (λ c κs. search needs)
+    (λ c κs. search needs)
     loop-holds
     (λ c κs. search needs)
-    (λ c κs. search needs)
+    pair-requires
     (λ c κs. search needs)
     (λ c. search needs)
     (λ c. search needs)

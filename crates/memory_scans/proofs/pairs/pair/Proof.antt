@@ -10,8 +10,8 @@ returns c =
     let two = c .before .before .before .before in
     let one = two .before .before .before in
     let known = one .before .before .before in
-    let s = one .scan .ensures in
-    let t = two .scan2 .ensures in
+    let s = one .scan-ready .ensures in
+    let t = two .scan-ready2 .ensures in
     pair-says _ _ _ _ _ _ _ _ (λ i. omega (arith, known .shared-slice-known .given i))
     (paired _ _ _ _ _ _ _ _ (s .0, (s .1 .0, s .1 .1 .0)) (two .before .before .answer-of .ensures) (t .0, (t .1 .0, t .1 .1 .0)) (c .before .before .before .answer-of2 .ensures) (c .apart .ensures))
 
