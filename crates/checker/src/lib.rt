@@ -5,6 +5,7 @@ ghost use Rattle.ec20.specs.Check.{checkOf};
 ghost use Rattle.ec20.specs.Code.{programIn};
 ghost use Rattle.ec20.specs.Control.{controlsOf};
 ghost use Rattle.ec20.specs.File.{recordsFrom};
+ghost use Rattle.instructions.specs.Cells.{cells};
 ghost use Rattle.labels.specs.Sound.{Sound};
 ghost use Rattle.records.specs.Ranges.{Held};
 ghost use lib.ListN.{length};
@@ -55,12 +56,13 @@ fn judge_loops(f: &[u8], first: usize, count: usize) -> Verdict
     }
 }
 
-// 5 and then the rest.
-fn judge_rungs(f: &[u8], first: usize, count: usize) -> Verdict
+// 5 by the instruction table, and then the rest.
+fn judge_rungs(rows: &[[u8; 11]; 56], f: &[u8], first: usize, count: usize) -> Verdict
+    requires { ⌜ now rows ≡ cells ⌝ }
     requires { ⌜ Held (length (now f)) first count ⌝ }
     ensures { λ r. ⌜ r ≡ fromRungs (recordsFrom (now (f .entry)) first count) ⌝ }
 {
-    match rungs::first_broken(f, first, count) {
+    match rungs::first_broken(rows, f, first, count) {
         Judged::Fault(n, k) => Verdict::Refused {
             number: n,
             record: k,
@@ -69,26 +71,31 @@ fn judge_rungs(f: &[u8], first: usize, count: usize) -> Verdict
     }
 }
 
-// 2, 3 and 4 in record order, and then the rest.
-fn judge_records(f: &[u8], first: usize, count: usize) -> Verdict
+// 2, 3 and 4 in record order, by the instruction table, and then the rest.
+fn judge_records(rows: &[[u8; 11]; 56], f: &[u8], first: usize, count: usize) -> Verdict
+    requires { ⌜ now rows ≡ cells ⌝ }
     requires { ⌜ Held (length (now f)) first count ⌝ }
     ensures { λ r. ⌜ r ≡ fromRecords (recordsFrom (now (f .entry)) first count) ⌝ }
 {
-    match faults::first_bad(f, first, count) {
+    match faults::first_bad(rows, f, first, count) {
         Judged::Fault(n, k) => Verdict::Refused {
             number: n,
             record: k,
         },
-        Judged::Fine => judge_rungs(f, first, count),
+        Judged::Fine => judge_rungs(rows, f, first, count),
     }
 }
 
-// The check of a file: accepted, with its count of records and W; or refused, with the number and the record told.
+// The check of a file: accepted, with its count of records and W; or refused, with the number and the record told. The instruction table is made
+// once, where the frame is whole, and lent.
 pub fn check(f: &[u8]) -> Verdict
     ensures { λ r. ⌜ r ≡ checkOf (now (f .entry)) ⌝ }
 {
     match records::frame(f) {
-        Frame::Whole { first, count } => judge_records(f, first, count),
+        Frame::Whole { first, count } => {
+            let rows = instructions::table();
+            judge_records(&rows, f, first, count)
+        }
         Frame::Broken => Verdict::Refused {
             number: 1,
             record: 0,

@@ -10,11 +10,11 @@ use Rattle.ec20.specs.Devices.{ec20}
 use Rattle.ec20.specs.Operands.{constantIn, oneOf, wordsIn, isUnused, isBitRead, isBitWritten, isSource, isTarget, allowed}
 
 -- the test that counts, and n after it that fail
-unfoldable then-none : ℕ → Bool → Bool
+unfoldable pub then-none : ℕ → Bool → Bool
 then-none zero b = b
 then-none (suc n) b = then-none n b || false
 
-only : (n : ℕ) (b : Bool) → b ≡ then-none n b
+pub only : (n : ℕ) (b : Bool) → b ≡ then-none n b
 unfolding then-none
 only zero b = refl
 only (suc n) b = only n b ∙ sym (or-false (then-none n b))

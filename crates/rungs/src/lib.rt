@@ -243,7 +243,7 @@ fn after_record(i: Instr, s: Rung) -> Rung
 }
 
 // The first record that breaks the rule, each decoded by the table. A scan, and the check, start with flow absent and both stacks empty.
-fn first_by(rows: &[[u8; 11]; 56], f: &[u8], first: usize, count: usize) -> Judged
+pub fn first_broken(rows: &[[u8; 11]; 56], f: &[u8], first: usize, count: usize) -> Judged
     requires { ⌜ now rows ≡ cells ⌝ }
     requires { ⌜ Held (length (now f)) first count ⌝ }
     ensures { λ r. ⌜ r ≡ firstBroken (programIn (recordsFrom (now (f .entry)) first count)) ⌝ }
@@ -264,13 +264,4 @@ fn first_by(rows: &[[u8; 11]; 56], f: &[u8], first: usize, count: usize) -> Judg
         k += 1;
     }
     Judged::Fine
-}
-
-// The first record that breaks the rule.
-pub fn first_broken(f: &[u8], first: usize, count: usize) -> Judged
-    requires { ⌜ Held (length (now f)) first count ⌝ }
-    ensures { λ r. ⌜ r ≡ firstBroken (programIn (recordsFrom (now (f .entry)) first count)) ⌝ }
-{
-    let rows = instructions::table();
-    first_by(&rows, f, first, count)
 }

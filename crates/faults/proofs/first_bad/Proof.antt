@@ -9,8 +9,8 @@ use Rattle.ec20.specs.Devices.{ec20}
 use Rattle.ec20.specs.File.{recordsFrom, recordFrom}
 use Rattle.ec20.specs.Operands.{faultIn, firstBad}
 use Rattle.faults.proofs.First.{turn, found, done}
-use Rattle.faults.proofs.first_by.Statement.{statement}
-use Rattle.faults.proofs.first_by.Tie as tie
+use Rattle.faults.proofs.first_bad.Statement.{statement}
+use Rattle.faults.proofs.first_bad.Tie as tie
 
 abbrev Inv-loop : tie.InvT-loop
 Inv-loop rows f first count k₀ k =
@@ -43,8 +43,8 @@ returns-2 c =
     let l = c .before .loop in
     done _ (l .k) _ (search needs) ∙ sym (l .inv .1)
 
-pub first-by-spec : {M : Type 1} → statement M
-first-by-spec =
+pub first-bad-spec : {M : Type 1} → statement M
+first-bad-spec =
     tie.close
     (tie.spec
     Inv-loop

@@ -9,8 +9,8 @@ use Rattle.ec20.specs.File.{recordsFrom}
 use Rattle.ec20.specs.Rung.{brokenFrom, firstBroken}
 use Rattle.rungs.proofs.Laws.{turn, broke, done, turned, within-after}
 use Rattle.rungs.specs.Within.{Within}
-use Rattle.rungs.proofs.first_by.Statement.{statement}
-use Rattle.rungs.proofs.first_by.Tie as tie
+use Rattle.rungs.proofs.first_broken.Statement.{statement}
+use Rattle.rungs.proofs.first_broken.Tie as tie
 
 abbrev Inv-loop : tie.InvT-loop
 Inv-loop rows f first count s₀ k₀ s k =
@@ -43,8 +43,8 @@ returns-2 c =
     let l = c .before .loop in
     done _ _ (l .k) _ (search needs) ∙ sym (l .inv .2)
 
-pub first-by-spec : {M : Type 1} → statement M
-first-by-spec =
+pub first-broken-spec : {M : Type 1} → statement M
+first-broken-spec =
     tie.close
     (tie.spec
     Inv-loop
