@@ -23,7 +23,7 @@ use Rattle.ec20.specs.Bits.{bitOf, bitAt, packed, byteWith, withBit, spread, gr
 use Rattle.ints.proofs.TwosLaws.{low-lt, signed-range, signed-small, wrap-fits}
 
 -- bit i goes by the digits up to any j above it, and by those from any j below it
-low-bit : (y i d : ℕ) → bitOf (y % 2 ^ ((d + 1) + i)) i ≡ bitOf y i
+pub low-bit : (y i d : ℕ) → bitOf (y % 2 ^ ((d + 1) + i)) i ≡ bitOf y i
 low-bit y i d = ap (λ (n : ℕ). n % 2) (field y (d + 1) i) ∙ mod-mod-pow (y / 2 ^ i) d 1
 
 high-bit : (y j d : ℕ) → y / 2 ^ (j + (1 + d)) ≡ y / 2 ^ j / 2 / 2 ^ d

@@ -1,13 +1,15 @@
 -- What the code computes, as the definitions say it. Assumes nothing.
-use mathlib.Core.Path.{_≡_, refl, ap, ap₂, _∙_}
+use mathlib.Core.Path.{_≡_, refl, sym, ap, ap₂, _∙_}
 use mathlib.Core.List.{List}
 use Prim.Native.Nat.{ℕ, zero, suc, _+_, _*_, _-_, _/_, _%_, _^_, _<_, _≤_}
-use native.Mathlib.Nat.{mod-lt, pow-suc, mul-le-mul-right}
-use native.Mathlib.Numerals.{add-one}
+use native.Mathlib.Nat.{mod-lt, mod-eq-of-lt}
 use native.Mathlib.Omega.{arith}
-use lib.Pow.{shl-exact}
-use lib.Bits.{bitAnd, bitOr, and-mask, and-high, or-shifted-r}
-use Rattle.ec20.specs.Bits.{bitAt, packed, byteWith, withBit, spread}
+use lib.ListN.{length, getD, set, List·getD-eq-default}
+use lib.Pow.{pow-pos, shl-exact}
+use lib.Bits.{bitAnd, bitOr, and-high, or-shifted, or-shifted-r}
+use Rattle.ec20.specs.Bits.{packed, byteWith, spread}
+use Rattle.bits.proofs.Laws.{packed-range}
+use Rattle.bits.proofs.Bytes.{packed-part, packed-byte, bytes-more, withRun, run-low, spread-run, spread-byte, put-more, masked, top-exact}
 
 -- a number below 8 is one of eight
 by8 : (P : ℕ → Type 0) → P 0 → P 1 → P 2 → P 3 → P 4 → P 5 → P 6 → P 7 → (j : ℕ) → j < 8 → P j
@@ -57,19 +59,68 @@ module _ (x j b : ℕ) (hx : x < 256) (hj : j < 8) (hb : b < 2) where
   pub byte-code : x - bitAnd x ((1 * 2 ^ j) % 2 ^ 64) + (b * 2 ^ j) % 2 ^ 64 ≡ byteWith x j b
   byte-code = ap₂ (λ (y z : ℕ). x - y + z) bit-in bit-new ∙ bit-changed
 
--- one more bit is gathered
-module _ (bs : List ℕ) (first i v b : ℕ) (so-far : v ≡ packed bs first i) (below : v < 2 ^ i) (inside : i < 32) (is : b ≡ bitAt bs (first + i)) (hb : b < 2) where
-  or-adds : bitOr v ((b * 2 ^ i) % 2 ^ 64) ≡ v + b * 2 ^ i
-  or-adds = ap (bitOr v) (shl-exact {a = b} 1 i 64 hb (omega arith)) ∙ or-shifted-r b i v below ∙ omega arith
+-- by whole bytes, from byte `at` on
+module _ (bs : List ℕ) (at : ℕ) (h : (k : ℕ) → getD bs k 0 < 256) where
+  -- one byte more is read
+  pub read-more : (i : ℕ) {v : ℕ} → i < 8 → v ≡ packed bs (8 * at) (8 * i) → bitOr v ((getD bs (at + i) 0 * 2 ^ (8 * i)) % 2 ^ 64) ≡ packed bs (8 * at) (8 * i + 8)
+  read-more i {v} l e =
+      let x : ℕ = getD bs (at + i) 0 in
+      ap (bitOr v) (shl-exact {a = x} 8 (8 * i) 64 (h (at + i)) (omega arith))
+      ∙ or-shifted-r x (8 * i) v (omega (arith, e, packed-range bs (8 * at) (8 * i)))
+      ∙ omega (arith, e, bytes-more bs at i (h (at + i)))
 
-  pub gathered : bitOr v ((b * 2 ^ i) % 2 ^ 64) ≡ packed bs first (i + 1)
-  unfolding packed
-  gathered = or-adds ∙ rw add-one (ap₂ (λ (x y : ℕ). x + y * 2 ^ i) so-far is)
+  -- the first byte is read
+  read-first : getD bs at 0 ≡ packed bs (8 * at) 8
+  read-first = sym (packed-byte bs at ∙ mod-eq-of-lt (h at))
 
-  pub gathered-lt : bitOr v ((b * 2 ^ i) % 2 ^ 64) < 2 ^ (i + 1)
-  gathered-lt = rw (or-adds, add-one) (omega (arith, pow-suc 2 i, mul-le-mul-right {m = b} {n = 1} (2 ^ i) (omega arith)))
+  -- eight are read
+  pub read-eight : bitOr (bitOr (bitOr (bitOr (bitOr (bitOr (bitOr (getD bs at 0)
+      ((getD bs (at + 1) 0 * 2 ^ 8) % 2 ^ 64)) ((getD bs (at + 2) 0 * 2 ^ 16) % 2 ^ 64)) ((getD bs (at + 3) 0 * 2 ^ 24) % 2 ^ 64)) ((getD bs (at + 4) 0 * 2 ^ 32) % 2 ^ 64))
+      ((getD bs (at + 5) 0 * 2 ^ 40) % 2 ^ 64)) ((getD bs (at + 6) 0 * 2 ^ 48) % 2 ^ 64)) ((getD bs (at + 7) 0 * 2 ^ 56) % 2 ^ 64) ≡ packed bs (8 * at) 64
+  read-eight =
+      read-more 7 (omega arith) (read-more 6 (omega arith) (read-more 5 (omega arith) (read-more 4 (omega arith) (read-more 3 (omega arith) (read-more 2 (omega arith) (read-more 1 (omega arith) read-first))))))
 
--- and one more is spread
-pub spread-more : (bs xs ys : List ℕ) (first i v : ℕ) → xs ≡ spread bs first i v → ys ≡ withBit xs (first + i) (bitAnd (v / 2 ^ i) 1) → ys ≡ spread bs first (i + 1) v
-unfolding spread
-spread-more bs xs ys first i v e f = f ∙ rw add-one (ap₂ (λ (l : List ℕ) (b : ℕ). withBit l (first + i) b) e (and-mask (v / 2 ^ i) 1))
+  -- one byte more is put
+  pub put-on : (i v : ℕ) {t : List ℕ} → t ≡ spread bs (8 * at) (8 * i) v → set t (at + i) (v / 2 ^ (8 * i) % 256) ≡ spread bs (8 * at) (8 * i + 8) v
+  put-on i v e = ap (λ (u : List ℕ). set u (at + i) (v / 2 ^ (8 * i) % 256)) e ∙ sym (put-more bs at i v (h (at + i)))
+
+  -- eight are put
+  pub put-eight : (v : ℕ) → set (set (set (set (set (set (set (set bs at (v % 256))
+      (at + 1) (v / 2 ^ 8 % 256)) (at + 2) (v / 2 ^ 16 % 256)) (at + 3) (v / 2 ^ 24 % 256)) (at + 4) (v / 2 ^ 32 % 256))
+      (at + 5) (v / 2 ^ 40 % 256)) (at + 6) (v / 2 ^ 48 % 256)) (at + 7) (v / 2 ^ 56 % 256) ≡ spread bs (8 * at) 64 v
+  put-eight v = put-on 7 v (put-on 6 v (put-on 5 v (put-on 4 v (put-on 3 v (put-on 2 v (put-on 1 v (sym (spread-byte bs at v (h at)))))))))
+
+-- a byte past the table's end reads as 0
+pub read-none : (bs : List ℕ) (at i : ℕ) {v : ℕ} → length bs ≤ at + i → v ≡ packed bs (8 * at) (8 * i) → v ≡ packed bs (8 * at) (8 * i + 8)
+read-none bs at i l e =
+    let z : getD bs (at + i) 0 ≡ 0 = List·getD-eq-default bs 0 l in
+    e ∙ sym (bytes-more bs at i (omega (arith, z)) ∙ ap (λ (x : ℕ). packed bs (8 * at) (8 * i) + x * 2 ^ (8 * i)) z ∙ omega arith)
+
+-- n bits of 64, by a shift and a mask
+pub part-code : (bs : List ℕ) (i n x : ℕ) → n ≤ 32 → x ≡ packed bs (8 * (i / 8)) 64 → bitAnd (x / 2 ^ (i % 8)) ((1 * 2 ^ n) % 2 ^ 64 - 1) ≡ packed bs i n
+part-code bs i n x l e =
+    masked 64 (x / 2 ^ (i % 8)) n (omega arith)
+    ∙ ap (λ (y : ℕ). y / 2 ^ (i % 8) % 2 ^ n) e
+    ∙ sym (packed-part bs (8 * (i / 8)) 64 (i % 8) n (omega arith))
+    ∙ ap (λ (k : ℕ). packed bs k n) {x = 8 * (i / 8) + i % 8} {y = i} (omega arith)
+
+-- the three parts of a number with others for n of its bits
+abbrev runCode : ℕ → ℕ → ℕ → ℕ → ℕ
+runCode x s n v = bitOr ((x / 2 ^ (s + n) * 2 ^ (s + n)) % 2 ^ 64) (bitOr ((bitAnd v ((1 * 2 ^ n) % 2 ^ 64 - 1) * 2 ^ s) % 2 ^ 64) (bitAnd x ((1 * 2 ^ s) % 2 ^ 64 - 1)))
+
+run-code : (x s n v : ℕ) → x < 2 ^ 64 → s + n < 64 → runCode x s n v ≡ withRun x s n (v % 2 ^ n)
+run-code x s n v h l =
+    let u : ℕ = v % 2 ^ n in
+    let hu : u < 2 ^ n = mod-lt v (pow-pos n) in
+    let mid : (bitAnd v ((1 * 2 ^ n) % 2 ^ 64 - 1) * 2 ^ s) % 2 ^ 64 ≡ u * 2 ^ s = ap (λ (y : ℕ). (y * 2 ^ s) % 2 ^ 64) (masked 64 v n (omega arith)) ∙ shl-exact {a = u} n s 64 hu (omega arith) in
+    ap₂ bitOr (top-exact 64 x (s + n) h) (ap₂ bitOr mid (masked 64 x s (omega arith)) ∙ or-shifted u s (x % 2 ^ s) (mod-lt x (pow-pos s)))
+    ∙ or-shifted (x / 2 ^ (s + n)) (s + n) (u * 2 ^ s + x % 2 ^ s) (run-low x s n u hu)
+
+-- n bits of 64 that are put back with others for them
+pub spread-code : (bs t : List ℕ) (i n v x : ℕ) → n ≤ 32 → x ≡ packed bs (8 * (i / 8)) 64 → t ≡ spread bs (8 * (i / 8)) 64 (runCode x (i % 8) n v) → t ≡ spread bs i n v
+spread-code bs t i n v x l e f =
+    let c : runCode x (i % 8) n v ≡ withRun (packed bs (8 * (i / 8)) 64) (i % 8) n (v % 2 ^ n) = run-code x (i % 8) n v (omega (arith, e, packed-range bs (8 * (i / 8)) 64)) (omega arith) ∙ ap (λ (y : ℕ). withRun y (i % 8) n (v % 2 ^ n)) e in
+    f
+    ∙ ap (spread bs (8 * (i / 8)) 64) c
+    ∙ spread-run bs (8 * (i / 8)) 64 (i % 8) n v (omega arith)
+    ∙ ap (λ (k : ℕ). spread bs k n v) {x = 8 * (i / 8) + i % 8} {y = i} (omega arith)

@@ -1,4 +1,3 @@
--- The laws of bits by whole bytes, over any table, and what the proofs of several functions use.
-pub mod Bytes
+-- What the proofs of several functions use.
 mod Steps
 mod Shifts

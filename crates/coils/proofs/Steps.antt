@@ -5,25 +5,27 @@ use mathlib.Core.Path.{_≡_, refl, sym, ap, ap₂, _∙_}
 use native.Mathlib.Nat.{mod-eq-of-lt}
 use native.Mathlib.Numerals.{add-one}
 use native.Mathlib.Omega.{arith}
-use lib.ListN.{length, getD, set, length-append}
+use lib.ListN.{length, getD, set}
 use lib.Seq.{getD-set-other}
 use Rattle.ec20.specs.Bits.{bitOf, bitAt, withBit, packed, spread}
-use Rattle.bits.proofs.Laws.{bit-length, packed-range}
+use Rattle.bits.proofs.Laws.{packed-range}
 use Rattle.modbus.specs.Buffer.{over}
 use Rattle.modbus.specs.Exceptions.{bytesOf}
 use Rattle.modbus.specs.Replies.{coilByte, coilBytes}
 use Rattle.modbus.specs.Writes.{coilsTaken}
 use Rattle.modbus.proofs.BufferLaws.{over-none, over-more}
-use Rattle.modbus.proofs.Lengths.{coils-told, coils-kept}
+use Rattle.modbus.proofs.Lengths.{coils-told}
 use Rattle.coils.specs.Moved.{bytesMoved}
-use Rattle.coils.proofs.Bytes.{packed-bit, byteRun, spread-inside}
+use Rattle.bits.proofs.Bytes.{packed-bit, withRun, spread-byte, spread-inside}
+use Rattle.coils.proofs.Shifts.{run-lt}
 
 -- ---- moved
 
 -- n bits inside a byte are one store
-pub few-moved : (t : List ℕ) (at n v : ℕ) → at / 8 < length t → at % 8 + n ≤ 8 → v < 2 ^ n → set t (at / 8) (byteRun (getD t (at / 8) 0) (at % 8) n v) ≡ spread t at n v
+pub few-moved : (t : List ℕ) (at n v : ℕ) → getD t (at / 8) 0 < 256 → at % 8 + n ≤ 8 → v < 2 ^ n → set t (at / 8) (withRun (getD t (at / 8) 0) (at % 8) n v) ≡ spread t at n v
 few-moved t at n v h l g =
-    ap (λ (w : ℕ). set t (at / 8) (byteRun (getD t (at / 8) 0) (at % 8) n w)) (sym (mod-eq-of-lt g))
+    let x : ℕ = getD t (at / 8) 0 in
+    ap (set t (at / 8)) (sym (ap (λ (w : ℕ). withRun x (at % 8) n w % 256) (mod-eq-of-lt g) ∙ mod-eq-of-lt (run-lt x (at % 8) n v h l g)))
     ∙ sym (spread-inside t (at / 8) (at % 8) n v h l)
     ∙ ap (λ (j : ℕ). spread t j n v) {x = 8 * (at / 8) + at % 8} {y = at} (omega arith)
 
@@ -56,36 +58,35 @@ module _ (m : List ℕ) (a : ℕ) (f : List ℕ) where
   taken-run i n = taken-more i n (packed f (56 + i) n) (packed-bit f (56 + i) n)
 
   -- eight coils more, of which the first is a byte's first, are that byte
-  pub taken-byte : (i k : ℕ) → a + i ≡ 8 * k → k < length m → getD m k 0 < 256 → coilsTaken m a f (i + 8) ≡ set (coilsTaken m a f i) k (packed f (56 + i) 8)
-  taken-byte i k e l h =
+  pub taken-byte : (i k : ℕ) → a + i ≡ 8 * k → getD m k 0 < 256 → coilsTaken m a f (i + 8) ≡ set (coilsTaken m a f i) k (packed f (56 + i) 8)
+  taken-byte i k e h =
       let t : List ℕ = coilsTaken m a f i in
       let v : ℕ = packed f (56 + i) 8 in
       let r = packed-range f (56 + i) 8 in
       let x = taken-later i k (omega arith) in
       taken-run i 8
-      ∙ ap (λ (j : ℕ). spread t j 8 v) {x = a + i} {y = 8 * k + 0} (omega arith)
-      ∙ spread-inside t k 0 8 v (omega (arith, coils-kept m a f i)) (omega arith)
-      ∙ ap (set t k) (omega (arith, r, x))
+      ∙ ap (λ (j : ℕ). spread t j 8 v) {x = a + i} {y = 8 * k} (omega arith)
+      ∙ spread-byte t k v (omega (arith, h, x))
+      ∙ ap (set t k) (mod-eq-of-lt r)
 
 -- 8 * k coils more, of which the first is a byte's first, are k whole bytes
-pub taken-bytes : (m b : List ℕ) (a : ℕ) (f : List ℕ) (i k : ℕ) → b ≡ coilsTaken m a f i → (a + i) % 8 ≡ 0 → (a + i) / 8 + k ≤ length b → ((j : ℕ) → getD b j 0 < 256) → bytesMoved b ((a + i) / 8) f (56 + i) k ≡ coilsTaken m a f (i + 8 * k)
+pub taken-bytes : (m b : List ℕ) (a : ℕ) (f : List ℕ) (i k : ℕ) → b ≡ coilsTaken m a f i → (a + i) % 8 ≡ 0 → ((j : ℕ) → getD b j 0 < 256) → bytesMoved b ((a + i) / 8) f (56 + i) k ≡ coilsTaken m a f (i + 8 * k)
 unfolding bytesMoved
-taken-bytes m b a f i zero e z l h = e ∙ ap (coilsTaken m a f) {x = i} {y = i + 8 * 0} (omega arith)
-taken-bytes m b a f i (suc k) e z l h =
+taken-bytes m b a f i zero e z h = e ∙ ap (coilsTaken m a f) {x = i} {y = i + 8 * 0} (omega arith)
+taken-bytes m b a f i (suc k) e z h =
     let at : ℕ = (a + i) / 8 + k in
     let same : getD b at 0 ≡ getD m at 0 = ap (λ (x : List ℕ). getD x at 0) e ∙ taken-later m a f i at (omega arith) in
-    let long : length b ≡ length m = ap (λ (x : List ℕ). length x) e ∙ coils-kept m a f i in
-    ap (λ (t : List ℕ). set t at (packed f (56 + i + 8 * k) 8)) (taken-bytes m b a f i k e z (omega arith) h)
+    ap (λ (t : List ℕ). set t at (packed f (56 + i + 8 * k) 8)) (taken-bytes m b a f i k e z h)
     ∙ ap (λ (j : ℕ). set (coilsTaken m a f (i + 8 * k)) at (packed f j 8)) {x = 56 + i + 8 * k} {y = 56 + (i + 8 * k)} (omega arith)
-    ∙ sym (taken-byte m a f (i + 8 * k) at (omega arith) (omega arith) (omega (arith, same, h at)))
+    ∙ sym (taken-byte m a f (i + 8 * k) at (omega arith) (omega (arith, same, h at)))
     ∙ ap (coilsTaken m a f) {x = i + 8 * k + 8} {y = i + 8 * suc k} (omega arith)
 
 -- whole bytes, then those that are left
-pub taken-on : (m b t u : List ℕ) (a : ℕ) (f : List ℕ) (i k n : ℕ) → b ≡ coilsTaken m a f i → (a + i) % 8 ≡ 0 → (a + i) / 8 + k ≤ length b → ((j : ℕ) → getD b j 0 < 256) → i + 8 * k ≤ n → t ≡ bytesMoved b ((a + i) / 8) f (56 + i) k → u ≡ spread t (a + (i + 8 * k)) (n - (i + 8 * k)) (packed f (56 + (i + 8 * k)) (n - (i + 8 * k))) → u ≡ coilsTaken m a f n
-taken-on m b t u a f i k n e z l h g et eu =
+pub taken-on : (m b t u : List ℕ) (a : ℕ) (f : List ℕ) (i k n : ℕ) → b ≡ coilsTaken m a f i → (a + i) % 8 ≡ 0 → ((j : ℕ) → getD b j 0 < 256) → i + 8 * k ≤ n → t ≡ bytesMoved b ((a + i) / 8) f (56 + i) k → u ≡ spread t (a + (i + 8 * k)) (n - (i + 8 * k)) (packed f (56 + (i + 8 * k)) (n - (i + 8 * k))) → u ≡ coilsTaken m a f n
+taken-on m b t u a f i k n e z h g et eu =
     let j : ℕ = i + 8 * k in
     eu
-    ∙ ap (λ (x : List ℕ). spread x (a + j) (n - j) (packed f (56 + j) (n - j))) (et ∙ taken-bytes m b a f i k e z l h)
+    ∙ ap (λ (x : List ℕ). spread x (a + j) (n - j) (packed f (56 + j) (n - j))) (et ∙ taken-bytes m b a f i k e z h)
     ∙ sym (taken-run m a f j (n - j))
     ∙ ap (coilsTaken m a f) {x = j + (n - j)} {y = n} (omega arith)
 

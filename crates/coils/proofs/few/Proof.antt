@@ -7,13 +7,14 @@ use lib.Bits.{bitAnd}
 use lib.Pow.{pow-mono}
 use Rattle.ec20.specs.Bits.{packed}
 use Rattle.bits.proofs.Laws.{packed-range}
-use Rattle.coils.proofs.Shifts.{one-there, few-code}
+use Rattle.bits.proofs.Bytes.{one-there}
+use Rattle.coils.proofs.Shifts.{few-code}
 use borrow.Author.Needs.{needs}
 use Rattle.coils.proofs.few.Statement.{statement}
 use Rattle.coils.proofs.few.Tie as tie
 
 sub-result : tie.Need-sub-result
-sub-result c = one-there (c .before .before .before .before .args .n) (c .before .before .before .before .pre)
+sub-result c = one-there 16 (c .before .before .before .before .args .n) (omega arith)
 
 -- what is answered
 answer : (c : tie.After-across) → let a = c .before .before .before .before .args in bitAnd (c .across .result) ((1 * 2 ^ (a .n)) % 65536 - 1) ≡ packed (now (a .bits)) (a .i) (a .n)
@@ -21,7 +22,7 @@ answer c =
     let s = c .before .before .before .before in
     let x = c .before .before .byte-at in
     let y = c .before .byte-at2 in
-    few-code (now (s .args .bits)) (s .args .i) (s .args .n) (x .result) (y .result) (c .across .result) (s .pre) (x .ensures) (y .ensures) (omega (arith, x .ok)) (c .across .ensures)
+    few-code (now (s .args .bits)) (s .args .i) (s .args .n) (x .result) (y .result) (c .across .result) (s .pre) (x .ensures) (y .ensures) (omega (arith, x .ok)) (omega (arith, y .ok)) (c .across .ensures)
 
 cast-result-3 : tie.Need-cast-result-3
 cast-result-3 c =

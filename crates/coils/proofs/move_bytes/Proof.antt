@@ -30,6 +30,7 @@ loop-again c =
       byte-moved (now (a .to)) (l .to) (a .at) (now (a .from)) (a .i) (l .j) (c .across .result) (l .inv .1)
           (across-code (now (a .from)) (a .i + 8 * l .j) k (a .i % 8) (c .across .result) (omega arith) (omega arith)
           (omega (arith, c .before .before .shared-slice-known2 .given (a .i / 8 + l .j)))
+          (omega (arith, c .before .before .shared-slice-known2 .given (a .i / 8 + l .j + 1)))
           (c .across .ensures)),
       length-set (l .to) _ _ ∙ l .inv .2,
     )

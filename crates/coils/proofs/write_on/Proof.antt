@@ -15,7 +15,6 @@ returns c =
     λ m0 e.
     taken-on m0 (now (a .m)) _ _ (a .a) (now (a .f)) (a .i) ((a .n - a .i - 1) / 8) (a .n) e
     (s .before .pre .1)
-    (omega arith)
     (λ j. omega (arith, s .slice-known .given j))
     (omega arith)
     (w .move-bytes .ensures)
