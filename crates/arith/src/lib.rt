@@ -88,7 +88,7 @@ fn sum(z: i64, h: u64) -> Outcome
     requires { ⌜ (0 < h) × (h ≤ 2 ^ 31) × (mag z < h + h) ⌝ }
     ensures { λ r. ⌜ r ≡ sumOf h z ⌝ }
 {
-    let value = ints::near(z, h);
+    let value = ints::wrapped(z, h);
     let zero = ints::is_zero(z);
     let above = ints::is_above(z, h);
     let below = ints::is_below(z, h);
@@ -116,7 +116,7 @@ pub fn inc(a: i64, h: u64) -> Outcome
     requires { ⌜ (h ≤ 2 ^ 31) × (mag a < h) ⌝ }
     ensures { λ r. ⌜ r ≡ value (wrap h (a +ℤ pos 1)) ⌝ }
 {
-    stored(ints::near(ints::plus(a, 1), h))
+    stored(ints::wrapped(ints::plus(a, 1), h))
 }
 
 // DEC and DDEC: one less, and the largest number before the lowest.
@@ -124,7 +124,7 @@ pub fn dec(a: i64, h: u64) -> Outcome
     requires { ⌜ (h ≤ 2 ^ 31) × (mag a < h) ⌝ }
     ensures { λ r. ⌜ r ≡ value (wrap h (a -ℤ pos 1)) ⌝ }
 {
-    stored(ints::near(ints::minus(a, 1), h))
+    stored(ints::wrapped(ints::minus(a, 1), h))
 }
 
 // DMUL: the low bits of the product. At 32 bits the modulus is a constant, so that no division is left.
@@ -147,7 +147,7 @@ pub fn div(a: i64, b: i64, h: u64) -> Outcome
     if ints::is_zero(b) {
         return refused(1);
     }
-    let quotient = ints::near(ints::quot(a, b), h);
+    let quotient = ints::wrapped(ints::quot(a, b), h);
     let remainder = ints::rest(a, b);
     both(quotient, remainder)
 }

@@ -1,4 +1,4 @@
--- One less is near the range, so that it fits 64 bits and one step takes it back. Assumes nothing.
+-- One less is near the range, so that it fits 64 bits, and its low bits are stored. Assumes nothing.
 use mathlib.Core.Path.{_≡_, ap, _∙_}
 use Prim.Native.Nat.{_+_, _<_}
 use native.Mathlib.Omega.{arith}
@@ -24,13 +24,10 @@ exact c = said w64 (c .minus .ok) (c .minus .ensures ∙ ap (λ (y : ℤ). y -�
 minus-requires : tie.Need-minus-requires
 minus-requires c κs = rw (toZ-ofZ (c .fits .a)) (near-fits (c .args .h) (c .pre .0) (near c))
 
-near-requires : tie.Need-near-requires
-near-requires c κs = rw (exact c) (omega arith, c .before .pre .0, near (c .before))
-
 returns : tie.Need-returns
 returns c =
     c .stored .ensures
-    ∙ ap value (said w64 (c .before .near .ok) (c .before .near .ensures ∙ ap (wrap (c .before .before .before .args .h)) (exact (c .before .before))))
+    ∙ ap value (said w64 (c .before .wrapped .ok) (c .before .wrapped .ensures ∙ ap (wrap (c .before .before .before .args .h)) (exact (c .before .before))))
 
 pub dec-spec : {M : Type 1} → statement M
-dec-spec = tie.close (tie.spec minus-requires near-requires (λ c κs. search needs) returns)
+dec-spec = tie.close (tie.spec minus-requires (λ c κs. search needs) (λ c κs. search needs) returns)

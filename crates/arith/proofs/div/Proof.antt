@@ -1,7 +1,6 @@
--- The machine's quotient and remainder at 64 bits. The quotient is near the range, and one step takes it back. Assumes nothing.
+-- The machine's quotient and remainder at 64 bits. The quotient is near the range, and its low bits are stored. Assumes nothing.
 use mathlib.Core.Path.{_≡_, sym, ap, ap₂, _∙_}
 use mathlib.Core.Bool.{false}
-use native.Mathlib.Omega.{arith}
 use lib.Signed.{quotZ, remZ}
 use mir.Syntax.{w64}
 use mir.Val.{SFits, toZ, ofZ}
@@ -37,11 +36,6 @@ returns c = c .refused .ensures ∙ rw (sym (tested (c .before .before)) ∙ c .
 quot-requires : tie.Need-quot-requires
 quot-requires c κs = asked c
 
-near-requires : tie.Need-near-requires
-near-requires c κs =
-    let s = c .before .before .before in
-    rw (exact c) (omega arith, s .pre .0, quotient-near (s .args .h) (s .args .a) (s .args .b) (s .pre .1))
-
 rest-requires : tie.Need-rest-requires
 rest-requires c κs = asked (c .before .before)
 
@@ -49,7 +43,7 @@ returns-2 : tie.Need-returns-2
 unfolding divOf
 returns-2 c =
     let s = c .before .before .before .before .before .before in
-    let q = said w64 (c .before .before .near .ok) (c .before .before .near .ensures ∙ ap (wrap (s .args .h)) (exact (c .before .before .before))) in
+    let q = said w64 (c .before .before .wrapped .ok) (c .before .before .wrapped .ensures ∙ ap (wrap (s .args .h)) (exact (c .before .before .before))) in
     let r = said w64 (c .before .rest .ok) (c .before .rest .ensures ∙ ap₂ remZ (toZ-ofZ (s .fits .a)) (toZ-ofZ (s .fits .b))) in
     let t = sym (tested (c .before .before .before .before .before)) ∙ c .before .before .before .before .if1 .left in
     c .both .ensures ∙ rw (q, r, t)
@@ -62,7 +56,7 @@ div-spec =
     (λ c κs. search needs)
     returns
     quot-requires
-    near-requires
+    (λ c κs. search needs)
     rest-requires
     (λ c κs. search needs)
     returns-2)
