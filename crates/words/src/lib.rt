@@ -1,9 +1,9 @@
 // D words and pairs of them, over a lent table. What lies outside the table reads as 0, and a store there changes nothing, so that no
-// function here asks its index to be in the table.
+// function here asks its index to be in the table, but for the two at the end, whose caller has tested it.
 ghost use mathlib.Core.Path.{_≡_};
 ghost use Prim.Native.Nat.{_+_, _<_, _^_};
 ghost use lib.IntN.{pos, _+ℤ_};
-ghost use lib.ListN.{set};
+ghost use lib.ListN.{length, set};
 ghost use lib.Signed.{mag};
 ghost use Rattle.ec20.specs.Numbers.{half};
 ghost use Rattle.ec20.specs.Registers.{wordAt, pairAt, withPair, numberAt, withNumber};
@@ -75,5 +75,37 @@ pub fn put_number(d: &mut [i16], i: usize, w: usize, v: i64)
     match w {
         16 => put_word(d, i, v),
         _ => put_pair(d, i, v),
+    }
+}
+
+// The number of w bits at i, where the table goes on behind i: one test serves both words of a pair.
+pub fn number_in(d: &[i16], i: usize, w: usize) -> i64
+    requires { ⌜ i + 1 < length (now d) ⌝ }
+    ensures { λ r. ⌜ (r ≡ numberAt w (now (d .entry)) i) × (mag r < half w) ⌝ }
+{
+    match w {
+        16 => ints::wide16(d[i]),
+        _ => {
+            let high = raised(ints::wide16(d[i])) % 65536;
+            let low = raised(ints::wide16(d[i + 1])) % 65536;
+            ints::of_bits(high * 65536 + low, 2147483648)
+        }
+    }
+}
+
+// v at i as a number of w bits, where the table goes on behind i.
+pub fn put_in(d: &mut [i16], i: usize, w: usize, v: i64)
+    requires { ⌜ (i + 1 < length (now d)) × (mag v < half w) ⌝ }
+    ensures { λ _. ⌜ now (d .exit) ≡ withNumber w (now (d .entry)) i v ⌝ }
+{
+    match w {
+        16 => {
+            d[i] = ints::narrow16(v);
+        }
+        _ => {
+            let u = raised(v) % 4294967296;
+            d[i] = ints::narrow16(ints::of_bits(u / 65536, 32768));
+            d[i + 1] = ints::narrow16(ints::of_bits(u % 65536, 32768));
+        }
     }
 }
