@@ -4,8 +4,8 @@ use mathlib.Core.Bool.{Bool, true, false, _&&_, _||_}
 use mathlib.Core.List.{List}
 use Prim.Native.Nat.{ℕ, _+_, _*_, _/_, _^_, _<_, _≤_}
 use native.Mathlib.Omega.{arith}
-use borrow.Author.Tests.{eq-eqb, ne-eqb, eqb-true}
-use lib.Dec.{eqb, leb}
+use borrow.Author.Tests.{eq-eqb, ne-eqb, eqb-true, ltb-true}
+use lib.Dec.{eqb, ltb, leb}
 use lib.IntN.{ℤ, pos, negsuc}
 use lib.ListN.{length, getD, set, take}
 use lib.Seq.{take-length}
@@ -22,6 +22,7 @@ use Rattle.ec20.specs.Memory.{Memory, memory, groupBits, storeBit, constantAt, 
 use Rattle.ec20.specs.Words.{withFlags, storeAll}
 use Rattle.ec20.specs.Flow.{coilOf}
 use Rattle.ec20.specs.Timers.{unitsOf, oldOf, countedOf, contactIs, limitAt, timerOf}
+use Rattle.ec20.proofs.Tests.{both}
 use Rattle.ints.proofs.TwosLaws.{signed-small}
 use Rattle.ints.proofs.Parts.{said, ltZ-true}
 
@@ -60,13 +61,34 @@ module _ (w : ℕ) (o : Operand) (x y m : List ℕ) (d tv : List ℤ) {r : ℤ} 
   read-y k e sm t = rw k e
 
   -- a group of M stands for all other kinds
-  pub read-m : eqb (o .kind) 1 ≡ false → eqb (o .kind) 7 ≡ false → (o .kind ≡ 6 → ⊥) → (o .kind ≡ 2 → ⊥) → (o .kind ≡ 3 → ⊥) → r ≡ groupAt w m (o .value) (o .group) → (sm t : List ℕ) → r ≡ loadOf w o (memory x y m sm t d tv)
+  pub read-m : eqb (o .kind) 1 ≡ false → (o .kind ≡ 7 → ⊥) → (o .kind ≡ 6 → ⊥) → (o .kind ≡ 2 → ⊥) → (o .kind ≡ 3 → ⊥) → r ≡ groupAt w m (o .value) (o .group) → (sm t : List ℕ) → r ≡ loadOf w o (memory x y m sm t d tv)
   unfolding loadOf groupBits
-  read-m k1 k7 k6 k2 k3 e sm t = rw (k1, ne-eqb _ _ k6, k7, ne-eqb _ _ k2, ne-eqb _ _ k3) e
+  read-m k1 k7 k6 k2 k3 e sm t = rw (k1, ne-eqb _ _ k6, ne-eqb _ _ k7, ne-eqb _ _ k2, ne-eqb _ _ k3) e
 
--- a slice of all there is of a table is the table
-pub all-of : (w : ℕ) (o : Operand) (x y m sm t : List ℕ) (d tv : List ℤ) (r : ℤ) → r ≡ loadOf w o (memory (take (length x) x) (take (length y) y) (take (length m) m) sm t d (take (length tv) tv)) → r ≡ loadOf w o (memory x y m sm t d tv)
-all-of w o x y m sm t d tv r e = e ∙ (λ i. loadOf w o (memory (take-length x i) (take-length y i) (take-length m i) sm t d (take-length tv i)))
+-- D, by the test of a table of n words: it goes on behind v
+pub in-table : (k v n : ℕ) → (eqb k 7 && ltb (v + 1) n) ≡ true → (k ≡ 7) × (v + 1 < n)
+in-table k v n e = let b = both (eqb k 7) (ltb (v + 1) n) e in (eqb-true k 7 (b .0), ltb-true (v + 1) n (b .1))
+
+-- what `load` and `compared` hand on of a call's answer z, by where it comes from
+module _ (w : ℕ) (o : Operand) (x y m : List ℕ) (d tv : List ℤ) where
+  abbrev Loaded : ℤ → Type 0
+  Loaded r = ((sm t : List ℕ) → r ≡ loadOf w o (memory x y m sm t d tv)) × (mag r < half w)
+
+  pub loaded-in : {z : ℤ} → mag z < 2 ^ 63 → (eqb (o .kind) 7 && ltb (o .value + 1) (length d)) ≡ true → (z ≡ numberAt w d (o .value)) × (mag z < half w) → Loaded (toZ w64 (ofZ w64 z))
+  loaded-in ok t e =
+      let s = said w64 ok refl in
+      (read-d w o x y m d tv (in-table (o .kind) (o .value) (length d) t .0) (s ∙ e .0), rw s (e .1))
+
+  pub loaded-constant : {z : ℤ} → mag z < 2 ^ 63 → o .kind ≡ 1 → (z ≡ constantAt w o) × (mag z < half w) → Loaded (toZ w64 (ofZ w64 z))
+  loaded-constant ok k e =
+      let s = said w64 ok refl in
+      (read-constant w o x y m d tv k (s ∙ e .0), rw s (e .1))
+
+  -- a slice of all there is of a table is the table
+  pub loaded-other : {z : ℤ} → mag z < 2 ^ 63 → ((sm t : List ℕ) → z ≡ loadOf w o (memory (take (length x) x) (take (length y) y) (take (length m) m) sm t (take (length d) d) (take (length tv) tv))) × (mag z < half w) → Loaded (toZ w64 (ofZ w64 z))
+  loaded-other ok e =
+      let s = said w64 ok refl in
+      (λ sm t. s ∙ e .0 sm t ∙ (λ i. loadOf w o (memory (take-length x i) (take-length y i) (take-length m i) sm t (take-length d i) (take-length tv i))), rw s (e .1))
 
 none-by : (b : Bool) (bs : List ℕ) (i : ℕ) → signed (pick b (2 ^ 15) (2 ^ 31)) (packed bs i (pick (leb (4 * 0) (pick b 16 32)) (4 * 0) (pick b 16 32))) ≡ pos 0
 unfolding packed
@@ -79,10 +101,6 @@ unfolding loadOf groupBits groupAt
 read-none w o x y m d tv e sm t =
     let b = both (eqb (o .kind) 0) (eqb (o .group) 0) e in
     rw (eqb-true (o .kind) 0 (b .0), eqb-true (o .group) 0 (b .1)) (sym (none-by (eqb w 16) m (o .value)))
-  where
-    both : (a b : Bool) → (a && b) ≡ true → (a ≡ true) × (b ≡ true)
-    both true b h = (refl, h)
-    both false b h = let z : _≡_ {A = ℕ} 0 1 = cc in absurd (omega arith)
 
 -- a target, by its kind
 module _ (w : ℕ) (o : Operand) (z : ℤ) (x y m sm t : List ℕ) (d tv : List ℤ) where
@@ -98,9 +116,9 @@ module _ (w : ℕ) (o : Operand) (z : ℤ) (x y m sm t : List ℕ) (d tv : List 
   unfolding storeOf
   into-m k e = rw (k, e)
 
-  pub into-none : eqb (o .kind) 7 ≡ false → (o .kind ≡ 3 → ⊥) → (o .kind ≡ 4 → ⊥) → memory x y m sm t d tv ≡ storeOf w o z (memory x y m sm t d tv)
+  pub into-none : (o .kind ≡ 7 → ⊥) → (o .kind ≡ 3 → ⊥) → (o .kind ≡ 4 → ⊥) → memory x y m sm t d tv ≡ storeOf w o z (memory x y m sm t d tv)
   unfolding storeOf
-  into-none k7 k3 k4 = rw (k7, ne-eqb _ _ k3, ne-eqb _ _ k4)
+  into-none k7 k3 k4 = rw (ne-eqb _ _ k7, ne-eqb _ _ k3, ne-eqb _ _ k4)
 
 -- a coil's bit, by its kind
 module _ (o : Operand) (b : ℕ) (x y m sm t : List ℕ) (d tv : List ℤ) where

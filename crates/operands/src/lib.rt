@@ -1,11 +1,12 @@
 // Operands over the lent memory: what each reads and writes of it. A program touches memory only here: bits of X, Y, M, SM and T contacts,
 // D words and T values. Each contract is one equation over the whole memory, whatever the tables are that a function does not hold.
-// Groups and T values, which are rare, stand in `other` and `store_group`. Each is called from two places and is too long to be inlined, so
-// that what calls it is short enough to be.
+// A constant, and a D word or pair behind which the table goes on, are read and stored at once. What is rare (groups, T values, none, and D at
+// the table's end) stands in `other` and `store_other`. Each is called from two places and is too long to be inlined, so that what calls it is
+// short enough to be.
 use ec20::Operand;
 use ec20::Outcome;
 ghost use mathlib.Core.Path.{_≡_};
-ghost use mathlib.Core.Bool.{false, _&&_};
+ghost use mathlib.Core.Bool.{false};
 ghost use mathlib.Core.List.{List};
 ghost use Prim.Native.Nat.{ℕ, _+_, _/_, _<_, _≤_, _^_};
 ghost use lib.Dec.{eqb};
@@ -51,24 +52,32 @@ fn constant(w: usize, o: Operand) -> i64
     }
 }
 
-// "Kinds: 0 none", as the second source where there is one only.
-fn nothing(o: Operand) -> bool
-    ensures { λ r. ⌜ r ≡ (eqb (o .kind) 0 && eqb (o .group) 0) ⌝ }
+// A source of w bits that is no constant, and that is rare: "a group of 4n bits of X, Y or M", "T (its value)", none, which reads 0, and a D
+// word or pair at the table's end or past it. Its operand comes as three numbers: a struct that is lent is written to the stack at each load.
+fn other(
+    w: usize,
+    k: usize,
+    g: usize,
+    v: usize,
+    x: &[u8],
+    y: &[u8],
+    m: &[u8],
+    d: &[i16],
+    tv: &[i16],
+) -> i64
+    requires { ⌜ (v < 2 ^ 32) × (eqb k 1 ≡ false) ⌝ }
+    ensures { λ r. ⌜ ((sm t : List ℕ) → r ≡ loadOf w (record { kind = k; group = g; value = v }) (memory (now (x .entry)) (now (y .entry)) (now (m .entry)) sm t (now (d .entry)) (now (tv .entry)))) × (mag r < half w) ⌝ }
 {
-    (o.kind == 0) & (o.group == 0)
-}
-
-// A source of w bits that is neither a constant nor D: "T (its value)", or "a group of 4n bits of X, Y or M".
-fn other(w: usize, o: Operand, x: &[u8], y: &[u8], m: &[u8], tv: &[i16]) -> i64
-    requires { ⌜ (o .value < 2 ^ 32) × (eqb (o .kind) 1 ≡ false) × (eqb (o .kind) 7 ≡ false) ⌝ }
-    ensures { λ r. ⌜ ((sm t : List ℕ) (d : List ℤ) → r ≡ loadOf w o (memory (now (x .entry)) (now (y .entry)) (now (m .entry)) sm t d (now (tv .entry)))) × (mag r < half w) ⌝ }
-{
-    let k = o.kind;
     match k {
-        6 => words::word_at(tv, o.value),
-        2 => bits::group_at(x, o.value, o.group, w),
-        3 => bits::group_at(y, o.value, o.group, w),
-        _ => bits::group_at(m, o.value, o.group, w),
+        7 => words::number_at(d, v, w),
+        6 => words::word_at(tv, v),
+        2 => bits::group_at(x, v, g, w),
+        3 => bits::group_at(y, v, g, w),
+        _ => if (k == 0) & (g == 0) {
+            0
+        } else {
+            bits::group_at(m, v, g, w)
+        },
     }
 }
 
@@ -77,21 +86,29 @@ pub fn load(w: usize, o: Operand, x: &[u8], y: &[u8], m: &[u8], d: &[i16], tv: &
     requires { ⌜ o .value < 2 ^ 32 ⌝ }
     ensures { λ r. ⌜ ((sm t : List ℕ) → r ≡ loadOf w o (memory (now (x .entry)) (now (y .entry)) (now (m .entry)) sm t (now (d .entry)) (now (tv .entry)))) × (mag r < half w) ⌝ }
 {
-    let k = o.kind;
-    match k {
-        7 => words::number_at(d, o.value, w),
-        1 => constant(w, o),
-        _ => if nothing(o) {
-            0
-        } else {
-            // Slices made here: those of the parameters would be written to the stack at each load.
-            let nx = x.len();
-            let ny = y.len();
-            let nm = m.len();
-            let nt = tv.len();
-            other(w, o, &x[..nx], &y[..ny], &m[..nm], &tv[..nt])
-        },
+    if (o.kind == 7) & (o.value + 1 < d.len()) {
+        return words::number_in(d, o.value, w);
     }
+    if o.kind == 1 {
+        return constant(w, o);
+    }
+    // Slices made here: those of the parameters would be written to the stack at each load.
+    let nx = x.len();
+    let ny = y.len();
+    let nm = m.len();
+    let nd = d.len();
+    let nt = tv.len();
+    other(
+        w,
+        o.kind,
+        o.group,
+        o.value,
+        &x[..nx],
+        &y[..ny],
+        &m[..nm],
+        &d[..nd],
+        &tv[..nt],
+    )
 }
 
 // A source of a comparison: "two sources, 16-bit", by the width that the table has. With one function for this and for `load` neither would be
@@ -101,30 +118,49 @@ pub fn compared(w: usize, o: Operand, x: &[u8], y: &[u8], m: &[u8], d: &[i16], t
     ensures { λ r. ⌜ ((sm t : List ℕ) → r ≡ loadOf w o (memory (now (x .entry)) (now (y .entry)) (now (m .entry)) sm t (now (d .entry)) (now (tv .entry)))) × (mag r < half w) ⌝ }
 {
     let v = o.value;
-    let k = o.kind;
-    match k {
-        7 => words::number_at(d, v, w),
-        1 => constant(w, o),
-        _ => {
-            // Slices made here, as in `load`.
-            let of_x = x.len();
-            let of_y = y.len();
-            let of_m = m.len();
-            let of_t = tv.len();
-            other(w, o, &x[..of_x], &y[..of_y], &m[..of_m], &tv[..of_t])
-        }
+    if (o.kind == 7) & (v + 1 < d.len()) {
+        return words::number_in(d, v, w);
     }
+    if o.kind == 1 {
+        return constant(w, o);
+    }
+    // Slices made here, as in `load`.
+    let of_x = x.len();
+    let of_y = y.len();
+    let of_m = m.len();
+    let of_d = d.len();
+    let of_t = tv.len();
+    other(
+        w,
+        o.kind,
+        o.group,
+        v,
+        &x[..of_x],
+        &y[..of_y],
+        &m[..of_m],
+        &d[..of_d],
+        &tv[..of_t],
+    )
 }
 
-// A target of w bits that is not D: "groups of Y or M".
-fn store_group(w: usize, o: Operand, z: i64, y: &mut [u8], m: &mut [u8])
-    requires { ⌜ (o .value < 2 ^ 33) × (mag z < half w) × (eqb (o .kind) 7 ≡ false) ⌝ }
-    ensures { λ _. ⌜ ((x sm t : List ℕ) (d tv : List ℤ) → memory x (now (y .exit)) (now (m .exit)) sm t d tv ≡ storeOf w o z (memory x (now (y .entry)) (now (m .entry)) sm t d tv)) ⌝ }
+// A target of w bits that is rare: "groups of Y or M", and a D word or pair at the table's end or past it.
+fn store_other(
+    w: usize,
+    k: usize,
+    g: usize,
+    v: usize,
+    z: i64,
+    y: &mut [u8],
+    m: &mut [u8],
+    d: &mut [i16],
+)
+    requires { ⌜ (v < 2 ^ 33) × (mag z < half w) ⌝ }
+    ensures { λ _. ⌜ ((x sm t : List ℕ) (tv : List ℤ) → memory x (now (y .exit)) (now (m .exit)) sm t (now (d .exit)) tv ≡ storeOf w (record { kind = k; group = g; value = v }) z (memory x (now (y .entry)) (now (m .entry)) sm t (now (d .entry)) tv)) ⌝ }
 {
-    let k = o.kind;
     match k {
-        3 => bits::put_group(y, o.value, o.group, w, z),
-        4 => bits::put_group(m, o.value, o.group, w, z),
+        7 => words::put_number(d, v, w, z),
+        3 => bits::put_group(y, v, g, w, z),
+        4 => bits::put_group(m, v, g, w, z),
         _ => {}
     }
 }
@@ -134,11 +170,11 @@ pub fn store(w: usize, o: Operand, z: i64, y: &mut [u8], m: &mut [u8], d: &mut [
     requires { ⌜ (o .value < 2 ^ 33) × (mag z < half w) ⌝ }
     ensures { λ _. ⌜ ((x sm t : List ℕ) (tv : List ℤ) → memory x (now (y .exit)) (now (m .exit)) sm t (now (d .exit)) tv ≡ storeOf w o z (memory x (now (y .entry)) (now (m .entry)) sm t (now (d .entry)) tv)) ⌝ }
 {
-    if o.kind == 7 {
-        words::put_number(d, o.value, w, z);
+    if (o.kind == 7) & (o.value + 1 < d.len()) {
+        words::put_in(d, o.value, w, z);
         return;
     }
-    store_group(w, o, z, y, m);
+    store_other(w, o.kind, o.group, o.value, z, y, m, d);
 }
 
 // The target so many words on.
@@ -171,11 +207,11 @@ pub fn second(
         return;
     }
     let n = next(words, o);
-    if n.kind == 7 {
-        words::put_number(d, n.value, w, r.second);
+    if (n.kind == 7) & (n.value + 1 < d.len()) {
+        words::put_in(d, n.value, w, r.second);
         return;
     }
-    store_group(w, n, r.second, y, m);
+    store_other(w, n.kind, n.group, n.value, r.second, y, m, d);
 }
 
 // "SM180 on exactly if the exact result is 0, SM181 if it is above the width's range, SM182 if below"; nothing where flags stay.

@@ -1,51 +1,45 @@
--- By the kind. Assumes nothing.
+-- D where the table goes on, a constant, and else what `other` reads. Assumes nothing.
 use borrow.Author.Tests.{ne-eqb}
-use mathlib.Core.Path.{refl, sym, _∙_}
+use denote.Ref.{now}
 use native.Mathlib.Omega.{arith}
-use lib.ListN.{length-take}
-use mir.Syntax.{w64}
-use Rattle.ints.proofs.Parts.{said}
-use Rattle.operands.proofs.Steps.{all-of, half-least, read-constant, read-d, read-none}
+use lib.ListN.{length, length-take}
+use Rattle.operands.proofs.Steps.{in-table, loaded-in, loaded-constant, loaded-other}
 use borrow.Author.Needs.{needs}
 use Rattle.operands.proofs.load.Statement.{statement}
 use Rattle.operands.proofs.load.Tie as tie
 
-other-requires : tie.Need-other-requires
-other-requires c κs = (c .before .before .before .before .before .before .before .before .before .before .pre, ne-eqb _ _ (c .before .before .before .before .before .before .match .rest .1), ne-eqb _ _ (c .before .before .before .before .before .before .match .rest .0 .1))
+number-in-requires : tie.Need-number-in-requires
+number-in-requires c κs =
+    let a = c .before .before .before .before .before .before .args in
+    in-table (a .o .kind) (a .o .value) (length (now (a .d))) (c .if1 .taken) .1
 
 returns : tie.Need-returns
-returns c =
-    let s = said w64 (c .number-at .ok) refl in
-    (read-d _ _ _ _ _ _ _ (c .before .match .keys1) (s ∙ c .number-at .ensures .0), rw s (c .number-at .ensures .1))
+returns c = loaded-in _ _ _ _ _ _ _ (c .number-in .ok) (c .before .if1 .taken) (c .number-in .ensures)
 
 returns-2 : tie.Need-returns-2
-returns-2 c =
-    let s = said w64 (c .constant .ok) refl in
-    (read-constant _ _ _ _ _ _ _ (c .before .match .keys2) (s ∙ c .constant .ensures .0), rw s (c .constant .ensures .1))
+returns-2 c = loaded-constant _ _ _ _ _ _ _ (c .constant .ok) (c .before .if2 .taken) (c .constant .ensures)
+
+other-requires : tie.Need-other-requires
+other-requires c κs =
+    let at-if2 = c .before .before .before .before .before in
+    (at-if2 .before .before .before .before .before .before .before .before .pre, ne-eqb _ _ (at-if2 .if2 .left))
 
 returns-3 : tie.Need-returns-3
-returns-3 c =
-    let h = half-least (c .before .before .before .before .before .before .args .w) in
-    (read-none _ _ _ _ _ _ _ (sym (c .before .nothing .ensures) ∙ c .if1 .taken), omega arith)
-
-returns-4 : tie.Need-returns-4
-returns-4 c =
-    let s = said w64 (c .other .ok) refl in
-    (λ sm t. all-of _ _ _ _ _ _ _ _ _ _ (s ∙ c .other .ensures .0 sm t _), rw s (c .other .ensures .1))
+returns-3 c = loaded-other _ _ _ _ _ _ _ (c .other .ok) (c .other .ensures)
 
 pub load-spec : {M : Type 1} → statement M
 load-spec =
     tie.close
     (tie.spec
+    (λ c. search needs)
+    number-in-requires
+    returns
     (λ c κs. search needs)
-    (λ c κs. search needs)
-    (λ c κs. search needs)
+    returns-2
+    (λ c. simp length-take (omega arith))
     (λ c. simp length-take (omega arith))
     (λ c. simp length-take (omega arith))
     (λ c. simp length-take (omega arith))
     (λ c. simp length-take (omega arith))
     other-requires
-    returns
-    returns-2
-    returns-3
-    returns-4)
+    returns-3)
