@@ -7,14 +7,14 @@ use lib.Arith.{digits-mod}
 use native.Mathlib.Omega.{arith}
 use native.Mathlib.Decide.{decLt}
 use borrow.Author.Tests.{lt-ltb, le-ltb}
-use lib.IntN.{ℤ, pos, negsuc, negℤ, _+ℤ_, _-ℤ_, -ℤ-+ℤ-cancel}
+use lib.IntN.{ℤ, pos, negsuc, negℤ, _+ℤ_, _-ℤ_}
 use lib.Signed.{mag, ltZ}
 use mathlib.Core.Bool.{Bool, true, false, not}
 use mir.Syntax.{Width}
 use mir.Val.{bits, hbits, Fits, SFits, ofZ, toZ}
 use mir.ValLaws.{half-full, pow-bits}
 use Rattle.ec20.specs.Numbers.{low, signed, wrap, isAbove, isBelow}
-use Rattle.ints.proofs.Parts.{up, dn, up-neg, dn-neg, eq-parts, add-parts, minus-parts, range-parts, parts-range, ltZ-true, ltZ-false}
+use Rattle.ints.proofs.Parts.{up, dn, up-neg, dn-neg, eq-parts, minus-parts, ltZ-true, ltZ-false}
 
 pub low-lt : (m : ℕ) (z : ℤ) → 0 < m → low m z < m
 low-lt m (pos n) h = mod-lt n h
@@ -102,27 +102,6 @@ low-more m (negsuc n) k h = by-half (k * m) n above below
         rw (le-ltb (k * m) (suc n) l)
         (ap (λ (j : ℕ). j % m) (multiple (k - suc (n / m)) (omega arith)) ∙ digits-mod (k - suc (n / m)) (omega arith))
 
--- What is stored goes by z up to multiples of h + h, so one step takes a number near the range into it
-pub wrap-more : (h : ℕ) (z : ℤ) → 0 < h → wrap h (z +ℤ pos (h + h)) ≡ wrap h z
-unfolding wrap
-wrap-more h z l =
-    ap (λ (k : ℕ). signed h (low (h + h) (z +ℤ pos k))) (omega arith) ∙ ap (signed h) (low-more (h + h) z 1 (omega arith))
-
-module _ (h : ℕ) (z : ℤ) (l : 0 < h) (near : mag z < h + h) where
-  pub wrap-under : h + up z < dn z → wrap h z ≡ z +ℤ pos (h + h)
-  wrap-under k =
-      let p = range-parts (h + h) z near in
-      let e = add-parts z (pos (h + h)) in
-      sym (wrap-more h z l) ∙ wrap-fits h (z +ℤ pos (h + h)) (parts-range h (z +ℤ pos (h + h)) (omega arith) (omega arith))
-
-  pub wrap-over : h + dn z ≤ up z → wrap h z ≡ z -ℤ pos (h + h)
-  wrap-over k =
-      let p = range-parts (h + h) z near in
-      let e = minus-parts z (pos (h + h)) in
-      ap (wrap h) (sym (-ℤ-+ℤ-cancel z (pos (h + h))))
-      ∙ wrap-more h (z -ℤ pos (h + h)) l
-      ∙ wrap-fits h (z -ℤ pos (h + h)) (parts-range h (z -ℤ pos (h + h)) (omega arith) (omega arith))
-
 -- what the tests of a range say of the parts
 pub not-true : (b : Bool) → not b ≡ true → b ≡ false
 not-true true e = cc
@@ -136,11 +115,5 @@ module _ (h : ℕ) (z : ℤ) where
   pub above-yes : isAbove h z ≡ true → h + dn z ≤ up z
   above-yes e = let k = ltZ-false z (pos h) (not-true (ltZ z (pos h)) e) in omega arith
 
-  pub above-no : isAbove h z ≡ false → up z < h + dn z
-  above-no e = let k = ltZ-true z (pos h) (not-false (ltZ z (pos h)) e) in omega arith
-
   pub below-yes : isBelow h z ≡ true → h + up z < dn z
   below-yes e = omega (arith, ltZ-true z (negℤ (pos h)) e, up-neg (pos h), dn-neg (pos h))
-
-  pub below-no : isBelow h z ≡ false → dn z ≤ h + up z
-  below-no e = omega (arith, ltZ-false z (negℤ (pos h)) e, up-neg (pos h), dn-neg (pos h))

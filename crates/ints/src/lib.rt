@@ -1,9 +1,9 @@
 // Leaf operations on signed numbers: each states its result in ℤ, so that a caller's proof sees no bits.
 ghost use mathlib.Core.Path.{_≡_};
-ghost use Prim.Native.Nat.{_+_, _<_, _≤_, _^_};
+ghost use Prim.Native.Nat.{_+_, _<_, _^_};
 ghost use Rattle.ec20.specs.Numbers.{low, signed, wrap, isZero, isAbove, isBelow, isLowest};
 ghost use lib.IntN.{pos, negℤ, _+ℤ_, _-ℤ_, _*ℤ_};
-ghost use lib.Signed.{ltZ, mag, quotZ, remZ};
+ghost use lib.Signed.{ltZ, quotZ, remZ};
 ghost use mir.Syntax.{w16, w64};
 ghost use mir.Val.{SFits};
 ghost use mathlib.Core.Bool.{false};
@@ -171,18 +171,4 @@ pub fn rest(a: i64, b: i64) -> i64
     ensures { λ r. ⌜ r ≡ remZ a b ⌝ }
 {
     a % b
-}
-
-// The low bits of a number z that is near the range from -h to h - 1, as a number of that range: one step of h + h takes it there.
-pub fn near(z: i64, h: u64) -> i64
-    requires { ⌜ (0 < h) × (h ≤ 2 ^ 31) × (mag z < h + h) ⌝ }
-    ensures { λ r. ⌜ r ≡ wrap h z ⌝ }
-{
-    if is_above(z, h) {
-        return minus(z, whole(h + h));
-    }
-    if is_below(z, h) {
-        return plus(z, whole(h + h));
-    }
-    z
 }
