@@ -1,5 +1,6 @@
 // The word instructions as functions of values, at 16 and 32 bits at once: h is one more than the largest number of the width. Each
-// result is what ec20's specs/Words.antt defines.
+// result is what ec20's specs/Words.antt defines. What is stored of an exact result are its low bits (`ints::wrapped`): callers write h as a
+// literal, so that no division is left.
 use ec20::Outcome;
 ghost use mathlib.Core.Path.{_≡_};
 ghost use Prim.Native.Nat.{_+_, _<_, _≤_, _^_};
