@@ -171,9 +171,9 @@ static int rungs(const uint8_t *r, int count) {
 
 enum { CAP = 10000001 };
 
-/* The first record that breaks the structure, or -1. Told besides: W, or CAP if it is larger; and of each record the FOR that it stands in
-   directly, or -1. */
-static int loops(const uint8_t *r, int count, int16_t *body, uint64_t *w) {
+/* The first record that breaks the structure, or -1. Told besides: W, or CAP if it is larger; of each record the FOR that it stands in directly,
+   or -1; and of each label one more than its first LBL, or 0. */
+static int loops(const uint8_t *r, int count, int16_t *body, uint16_t *place, uint64_t *w) {
     uint64_t outer[8], passes[8], steps = 0;
     int16_t start[9];
     int depth = 0;
@@ -197,6 +197,9 @@ static int loops(const uint8_t *r, int count, int16_t *body, uint64_t *w) {
             if (k != count - 1 || depth) return k;
             steps++;
             break;
+        case LBL:
+            if (place[r[4]] == 0) place[r[4]] = k + 1;
+            /* fall through */
         default:
             if (k == count - 1) return k;
             steps++;
@@ -208,21 +211,12 @@ static int loops(const uint8_t *r, int count, int16_t *body, uint64_t *w) {
     return -1;
 }
 
-/* The first LBL of a label, or -1. */
-static int first_label(const uint8_t *r, int count, unsigned label) {
-    for (int k = 0; k < count; k++, r += 20)
-        if (r[0] == LBL && r[4] == label) return k;
-    return -1;
-}
-
 /* The first record that sets a label twice or jumps where it must not, or -1. */
-static int labels(const uint8_t *r, int count, const int16_t *body) {
-    for (int k = 0; k < count; k++) {
-        const uint8_t *p = r + 20 * k;
-        if (p[0] == LBL) {
-            if (first_label(r, count, p[4]) != k) return k;
-        } else if (p[0] == CJ) {
-            int to = first_label(r, count, p[4]);
+static int labels(const uint8_t *r, int count, const int16_t *body, const uint16_t *place) {
+    for (int k = 0; k < count; k++, r += 20) {
+        if (r[0] == LBL && place[r[4]] != k + 1) return k;
+        if (r[0] == CJ) {
+            int to = place[r[4]] - 1;
             if (to < k || body[to] != body[k]) return k;
         }
     }
@@ -237,6 +231,7 @@ static void refuse(uint64_t out[4], uint64_t number, uint64_t record) {
 
 void c_check(const uint8_t *file, size_t size, uint64_t out[4]) {
     int16_t body[2000];
+    uint16_t place[128] = {0};
     uint64_t w = 0;
     int k;
     if (size < 8) return refuse(out, 1, 0);
@@ -252,8 +247,8 @@ void c_check(const uint8_t *file, size_t size, uint64_t out[4]) {
         if (n) return refuse(out, n, k);
     }
     if ((k = rungs(r, count)) >= 0) return refuse(out, 5, k);
-    if ((k = loops(r, count, body, &w)) >= 0) return refuse(out, 6, k);
-    if ((k = labels(r, count, body)) >= 0) return refuse(out, 7, k);
+    if ((k = loops(r, count, body, place, &w)) >= 0) return refuse(out, 6, k);
+    if ((k = labels(r, count, body, place)) >= 0) return refuse(out, 7, k);
     if (w > 10000000) return refuse(out, 8, 0);
     out[0] = out[1] = 0;
     out[2] = count;

@@ -35,6 +35,13 @@ static uint32_t extent(const uint8_t *r, int i, uint32_t *start) {
     return table[r[0]].words[i];
 }
 
+/* n words from w on, four at most: they lie in one byte of the map or in two. */
+static void mark(uint8_t *map, uint32_t w, uint32_t n) {
+    uint32_t bits = ((1u << n) - 1) << w % 8;
+    map[w / 8] |= (uint8_t)bits;
+    if (bits > 255) map[w / 8 + 1] |= (uint8_t)(bits >> 8);
+}
+
 void c_map(const uint8_t *file, size_t size, size_t told[2], uint8_t read[1000], uint8_t written[1000]) {
     uint64_t verdict[4];
     uint32_t start;
@@ -47,10 +54,9 @@ void c_map(const uint8_t *file, size_t size, size_t told[2], uint8_t read[1000],
     for (uint64_t k = 0; k < verdict[2]; k++, r += 20)
         for (int i = 0; i < 3; i++) {
             uint32_t n = extent(r, i, &start), use = table[r[0]].use[i];
-            for (uint32_t w = start; n > 0; n--, w++) {
-                if (use & READ) read[w / 8] |= 1 << w % 8;
-                if (use & WRITTEN) written[w / 8] |= 1 << w % 8;
-            }
+            if (n == 0) continue;
+            if (use & READ) mark(read, start, n);
+            if (use & WRITTEN) mark(written, start, n);
         }
 }
 

@@ -1,6 +1,10 @@
 /* The scan of document 01 in plain C: what the proved scan is measured against. The program has passed the check, so nothing is checked here.
-   Each record is decoded once, before the run. */
+   Each record is decoded once, before the run. It is written for speed, as one would for a machine with the lowest byte first: a group is one number
+   of eight bytes where its table has them, the three flags are put at once, and a root is the processor's own. */
 #include "scan.h"
+#include <math.h>
+#include <stddef.h>
+#include <string.h>
 
 enum { CONSTANT = 1, X, Y, M, SM, T, D };
 enum { NOP, LD, LDI, AND, ANI, OR, ORI, ANB, ORB, MPS, MRD, MPP, OUT, SET, RST, LDEQ, LDGT, LDLT, TON, FOR, NEXT, CJ, LBL, END };
@@ -33,36 +37,44 @@ static struct operand operand_at(const uint8_t *p) { return (struct operand){p[0
 
 static int bit(const uint8_t *bits, int k) { return bits[k >> 3] >> (k & 7) & 1; }
 
-static void put(uint8_t *bits, int k, int on) {
-    if (on)
-        bits[k >> 3] |= 1 << (k & 7);
+static void put(uint8_t *bits, int k, int on) { bits[k >> 3] = (bits[k >> 3] & ~(1 << (k & 7))) | on << (k & 7); }
+
+/* Where the bits of each kind begin in the memory, and how many bytes they have. */
+static const uint16_t begin[] = {[X] = offsetof(struct memory, x), [Y] = offsetof(struct memory, y), [M] = offsetof(struct memory, m),
+                                 [SM] = offsetof(struct memory, sm), [T] = offsetof(struct memory, t)};
+static const uint8_t bytes[] = {[X] = 32, [Y] = 32, [M] = 250, [SM] = 32, [T] = 32};
+
+static uint8_t *bits_of(struct memory *m, int kind) { return (uint8_t *)m + begin[kind]; }
+
+/* The bytes from p on as one number: eight, or as many as there are left in the table. */
+static uint64_t bytes_at(const uint8_t *p, int left) {
+    uint64_t v = 0;
+    if (left >= 8)
+        memcpy(&v, p, 8);
     else
-        bits[k >> 3] &= ~(1 << (k & 7));
-}
-
-static uint8_t *bits_of(struct memory *m, int kind) {
-    switch (kind) {
-    case X:
-        return m->x;
-    case Y:
-        return m->y;
-    case M:
-        return m->m;
-    case SM:
-        return m->sm;
-    default:
-        return m->t;
-    }
-}
-
-static uint32_t gather(const uint8_t *bits, int first, int size) {
-    uint32_t v = 0;
-    for (int i = 0; i < size; i++) v |= (uint32_t)bit(bits, first + i) << i;
+        while (left-- > 0) v = v << 8 | p[left];
     return v;
 }
 
-static void scatter(uint8_t *bits, int first, int size, uint32_t v) {
-    for (int i = 0; i < size; i++) put(bits, first + i, v >> i & 1);
+static void put_bytes(uint8_t *p, int left, uint64_t v) {
+    if (left >= 8)
+        memcpy(p, &v, 8);
+    else
+        for (; left > 0; left--, v >>= 8) *p++ = (uint8_t)v;
+}
+
+/* A group of n times four bits touches five bytes at most. */
+static uint32_t gather(struct memory *m, struct operand o) {
+    int at = o.value >> 3;
+    uint64_t v = bytes_at(bits_of(m, o.kind) + at, bytes[o.kind] - at);
+    return v >> (o.value & 7) & ((1ull << 4 * o.group) - 1);
+}
+
+static void scatter(struct memory *m, struct operand o, uint32_t v) {
+    int at = o.value >> 3, shift = o.value & 7, left = bytes[o.kind] - at;
+    uint8_t *p = bits_of(m, o.kind) + at;
+    uint64_t mask = ((1ull << 4 * o.group) - 1) << shift;
+    put_bytes(p, left, (bytes_at(p, left) & ~mask) | ((uint64_t)v << shift & mask));
 }
 
 static int32_t load16(struct memory *m, struct operand o) {
@@ -74,7 +86,7 @@ static int32_t load16(struct memory *m, struct operand o) {
     case T:
         return m->tv[o.value];
     default:
-        return (int16_t)gather(bits_of(m, o.kind), o.value, 4 * o.group);
+        return (int16_t)gather(m, o);
     }
 }
 
@@ -85,7 +97,7 @@ static int32_t load32(struct memory *m, struct operand o) {
     case D:
         return (int32_t)((uint32_t)(uint16_t)m->d[o.value] << 16 | (uint16_t)m->d[o.value + 1]);
     default:
-        return (int32_t)gather(bits_of(m, o.kind), o.value, 4 * o.group);
+        return (int32_t)gather(m, o);
     }
 }
 
@@ -93,7 +105,7 @@ static void store16(struct memory *m, struct operand o, int32_t v) {
     if (o.kind == D)
         m->d[o.value] = (int16_t)v;
     else
-        scatter(bits_of(m, o.kind), o.value, 4 * o.group, v);
+        scatter(m, o, v);
 }
 
 static void put32(struct memory *m, int k, int32_t v) {
@@ -105,14 +117,12 @@ static void store32(struct memory *m, struct operand o, int32_t v) {
     if (o.kind == D)
         put32(m, o.value, v);
     else
-        scatter(bits_of(m, o.kind), o.value, 4 * o.group, v);
+        scatter(m, o, v);
 }
 
-/* SM180, SM181 and SM182 */
+/* SM180, SM181 and SM182 are bits 4, 5 and 6 of one byte. */
 static void flags(struct memory *m, int zero, int above, int below) {
-    put(m->sm, 180, zero);
-    put(m->sm, 181, above);
-    put(m->sm, 182, below);
+    m->sm[22] = (m->sm[22] & ~0x70) | zero << 4 | above << 5 | below << 6;
 }
 
 static void sum16(struct memory *m, struct operand o, int32_t v) {
@@ -125,12 +135,8 @@ static void sum32(struct memory *m, struct operand o, int64_t v) {
     store32(m, o, (int32_t)v);
 }
 
-static int32_t root(int32_t v) {
-    int32_t r = 0;
-    for (int32_t step = 1 << 15; step; step >>= 1)
-        if ((int64_t)(r + step) * (r + step) <= v) r += step;
-    return r;
-}
+/* v is not below 0. A double holds it, and the root of it rounded down is exact. */
+static int32_t root(int32_t v) { return (int32_t)sqrt(v); }
 
 static int32_t rooted(struct memory *m, int32_t v) {
     int32_t r = root(v);

@@ -5,6 +5,7 @@ mod state;
 mod turn;
 mod wanted;
 
+ghost use Rattle.engine.specs.Made.{Made, Goes};
 use beginnings::scans;
 use calls::files;
 use calls::results;
@@ -12,6 +13,7 @@ use calls::results::Outcome;
 use calls::text;
 use calls::texts;
 use ec20::Scanned;
+use engine::Ready;
 use memories::tables;
 use state::State;
 use telling::report;
@@ -23,16 +25,21 @@ const TURNS: u64 = 4611686018427387904;
 // Turns until one of them is the last.
 fn turns(
     f: &[u8],
+    p: Ready,
+    goes: &[usize; 2000],
     image: &mut [u8; 16890],
     held: &mut [u8],
     w: Wanted,
     begun: State,
     err: i32,
-) -> State {
+) -> State
+    requires { ⌜ Made (now f) p ⌝ }
+    requires { ⌜ Goes (now f) p (now goes) ⌝ }
+{
     let mut s = begun;
     let mut k: u64 = 0;
     while k < TURNS {
-        s = turn::turn(f, image, held, w, s, err);
+        s = turn::turn(f, p, goes, image, held, w, s, err);
         if s.over {
             return s;
         }
@@ -51,14 +58,35 @@ fn tell(call: &[u8], s: State, image: &[u8; 16890], out: i32, err: i32) -> Outco
 }
 
 // The line is opened, and served until the end.
-fn serve(call: &[u8], f: &[u8], image: &mut [u8; 16890], w: Wanted, out: i32, err: i32) -> Outcome {
+fn serve(
+    call: &[u8],
+    f: &[u8],
+    p: Ready,
+    goes: &[usize; 2000],
+    image: &mut [u8; 16890],
+    w: Wanted,
+    out: i32,
+    err: i32,
+) -> Outcome
+    requires { ⌜ Made (now f) p ⌝ }
+    requires { ⌜ Goes (now f) p (now goes) ⌝ }
+{
     let device = files::open(text::word(call, 3), err);
     if device < 0 {
         return results::not_tried();
     }
     let stop = os::open_read(text::word(call, 7));
     let mut held = state::room();
-    let s = turns(f, image, &mut held, w, state::begun(device, stop), err);
+    let s = turns(
+        f,
+        p,
+        goes,
+        image,
+        &mut held,
+        w,
+        state::begun(device, stop),
+        err,
+    );
     libc::close(device);
     libc::close(stop);
     tell(call, s, image, out, err)
@@ -76,17 +104,22 @@ fn refuse(call: &[u8], f: &[u8], number: usize, record: usize, out: i32, err: i3
 fn judged(
     call: &[u8],
     f: &[u8],
+    p: Ready,
+    goes: &[usize; 2000],
     s: Scanned,
     image: &mut [u8; 16890],
     w: Wanted,
     out: i32,
     err: i32,
-) -> Outcome {
+) -> Outcome
+    requires { ⌜ Made (now f) p ⌝ }
+    requires { ⌜ Goes (now f) p (now goes) ⌝ }
+{
     match s {
         Scanned::Refused { number, record } => refuse(call, f, number, record, out, err),
         _ => {
             if (1 <= w.station) & (w.station <= 247) {
-                return serve(call, f, image, w, out, err);
+                return serve(call, f, p, goes, image, w, out, err);
             }
             refuse(call, f, 16, 0, out, err)
         }
@@ -105,8 +138,10 @@ fn run_loaded(
 ) -> Outcome {
     let mut image = tables::image();
     tables::start(memory, &mut image);
-    let s = memory_scans::scan(f, &mut image, size, 0, turn::BUDGET);
-    judged(call, f, s, &mut image, w, out, err)
+    let p = engine::make_ready(f);
+    let goes = engine::look_up(f, p);
+    let s = memory_scans::scan_ready(p, &goes, f, &mut image, size, 0, turn::BUDGET);
+    judged(call, f, p, &goes, s, &mut image, w, out, err)
 }
 
 pub fn run(call: &[u8], out: i32, err: i32) -> Outcome {

@@ -1,8 +1,10 @@
 // A turn of a slave: a scan, what came over the line, and the answer to one frame at most.
+ghost use Rattle.engine.specs.Made.{Made, Goes};
 use crate::state;
 use crate::state::State;
 use crate::wanted::Wanted;
 use calls::texts;
+use engine::Ready;
 use memories::answers;
 use modbus::Answered;
 use serial::held;
@@ -29,12 +31,22 @@ fn is_stopped(stop: i32) -> bool {
     libc::pread(stop, &mut one, 0) > 0
 }
 
-// The program was accepted, so that no scan is refused.
-fn scanned(f: &[u8], image: &mut [u8; 16890], s0: State, now: u64) -> State {
+// The program was accepted, so that no scan is refused; it was made ready once, so that none checks it again.
+fn scanned(
+    f: &[u8],
+    p: Ready,
+    goes: &[usize; 2000],
+    image: &mut [u8; 16890],
+    s0: State,
+    now: u64,
+) -> State
+    requires { ⌜ Made (now f) p ⌝ }
+    requires { ⌜ Goes (now f) p (now goes) ⌝ }
+{
     let mut s = s0;
-    let p = times::units(s.counted, now);
-    memory_scans::scan(f, image, 16890, p.units, BUDGET);
-    s.counted = p.until;
+    let n = times::units(s.counted, now);
+    memory_scans::scan_ready(p, goes, f, image, 16890, n.units, BUDGET);
+    s.counted = n.until;
     s.scans = one_more(s.scans);
     s
 }
@@ -140,12 +152,17 @@ fn served(image: &mut [u8; 16890], held: &mut [u8], w: Wanted, s: State, now: u6
 
 pub fn turn(
     f: &[u8],
+    p: Ready,
+    goes: &[usize; 2000],
     image: &mut [u8; 16890],
     held: &mut [u8],
     w: Wanted,
     s0: State,
     err: i32,
-) -> State {
+) -> State
+    requires { ⌜ Made (now f) p ⌝ }
+    requires { ⌜ Goes (now f) p (now goes) ⌝ }
+{
     let now = clock::milliseconds();
     let mut s = shown(w, s0, now, err);
     if is_late(w, s.begun, now) | is_stopped(s.stop) {
@@ -154,5 +171,5 @@ pub fn turn(
     }
     s = read(held, s);
     s = served(image, held, w, s, now);
-    scanned(f, image, s, now)
+    scanned(f, p, goes, image, s, now)
 }

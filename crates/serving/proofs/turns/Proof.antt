@@ -7,10 +7,10 @@ use Rattle.serving.proofs.turns.Statement.{statement}
 use Rattle.serving.proofs.turns.Tie as tie
 
 abbrev Inv-loop : tie.InvT-loop
-Inv-loop f image₀ held₀ w err s₀ k₀ image held s k = (k ≤ 4611686018427387904) × (length held ≡ length held₀)
+Inv-loop f p goes image₀ held₀ w err s₀ k₀ image held s k = (k ≤ 4611686018427387904) × (length held ≡ length held₀)
 
 abbrev μ-loop : tie.MeasureT-loop
-μ-loop f image₀ held₀ w err s₀ k₀ image held s k = 4611686018427387904 - k
+μ-loop f p goes image₀ held₀ w err s₀ k₀ image held s k = 4611686018427387904 - k
 
 pub turns-spec : {M : Type 1} → statement M
 turns-spec =
