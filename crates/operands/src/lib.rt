@@ -1,8 +1,8 @@
 // Operands over the lent memory: what each reads and writes of it. A program touches memory only here: bits of X, Y, M, SM and T contacts,
 // D words and T values. Each contract is one equation over the whole memory, whatever the tables are that a function does not hold.
-// A constant, and a D word or pair behind which the table goes on, are read and stored at once. What is rare (groups, T values, none, and D at
-// the table's end) stands in `other` and `store_other`. Each is called from two places and is too long to be inlined, so that what calls it is
-// short enough to be.
+// A D word or pair behind which the table goes on is read and stored where it is asked for, and a constant is read there. What is rare (groups,
+// T values, none, and D at the table's end) stands in `other` and `store_other`. Each is called from two places and is too long to be inlined,
+// so that what calls it is short enough to be.
 use ec20::Operand;
 use ec20::Outcome;
 ghost use mathlib.Core.Path.{_≡_};
@@ -52,8 +52,9 @@ fn constant(w: usize, o: Operand) -> i64
     }
 }
 
-// A source of w bits that is no constant, and that is rare: "a group of 4n bits of X, Y or M", "T (its value)", none, which reads 0, and a D
-// word or pair at the table's end or past it. Its operand comes as three numbers: a struct that is lent is written to the stack at each load.
+// A source of w bits that is no constant, where it is rare: "a group of 4n bits of X, Y or M", "T (its value)", "Kinds: 0 none", which reads 0,
+// and a D word or pair at the table's end or past it. The operand comes as three numbers: a struct that is lent would be written to the stack
+// at each load.
 fn other(
     w: usize,
     k: usize,
@@ -143,7 +144,7 @@ pub fn compared(w: usize, o: Operand, x: &[u8], y: &[u8], m: &[u8], d: &[i16], t
     )
 }
 
-// A target of w bits that is rare: "groups of Y or M", and a D word or pair at the table's end or past it.
+// A target of w bits, where it is rare: "groups of Y or M", and a D word or pair at the table's end or past it.
 fn store_other(
     w: usize,
     k: usize,
