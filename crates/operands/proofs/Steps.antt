@@ -74,10 +74,10 @@ module _ (w : ℕ) (o : Operand) (x y m : List ℕ) (d tv : List ℤ) where
   abbrev Loaded : ℤ → Type 0
   Loaded r = ((sm t : List ℕ) → r ≡ loadOf w o (memory x y m sm t d tv)) × (mag r < half w)
 
-  pub loaded-in : {z : ℤ} → mag z < 2 ^ 63 → (eqb (o .kind) 7 && ltb (o .value + 1) (length d)) ≡ true → (z ≡ numberAt w d (o .value)) × (mag z < half w) → Loaded (toZ w64 (ofZ w64 z))
-  loaded-in ok t e =
+  pub loaded-in : {z : ℤ} → mag z < 2 ^ 63 → o .kind ≡ 7 → (z ≡ numberAt w d (o .value)) × (mag z < half w) → Loaded (toZ w64 (ofZ w64 z))
+  loaded-in ok k e =
       let s = said w64 ok refl in
-      (read-d w o x y m d tv (in-table (o .kind) (o .value) (length d) t .0) (s ∙ e .0), rw s (e .1))
+      (read-d w o x y m d tv k (s ∙ e .0), rw s (e .1))
 
   pub loaded-constant : {z : ℤ} → mag z < 2 ^ 63 → o .kind ≡ 1 → (z ≡ constantAt w o) × (mag z < half w) → Loaded (toZ w64 (ofZ w64 z))
   loaded-constant ok k e =

@@ -19,7 +19,8 @@ ghost use Rattle.ec20.specs.Words.{withFlags};
 ghost use Rattle.ec20.specs.Flow.{coilOf};
 ghost use Rattle.ec20.specs.Timers.{unitsOf, oldOf, countedOf, contactIs, limitAt, timerOf};
 
-// "bit: X, Y, M, SM, T": whether the bit that the operand names is on; T contacts for all kinds but X, Y, M and SM.
+// "bit: X, Y, M, SM, T": whether the bit that the operand names is on; T contacts for all kinds but X, Y, M and SM. By tests and not by a `match`,
+// which becomes a jump through a table, the second one of the step.
 pub fn load_bit<'a>(
     o: Operand,
     x: &'a [u8],
@@ -32,13 +33,22 @@ pub fn load_bit<'a>(
 {
     let v = o.value;
     let k = o.kind;
-    match k {
-        2 => bits::bit_at(x, v) == 1,
-        3 => bits::bit_at(y, v) == 1,
-        4 => bits::bit_at(m, v) == 1,
-        5 => bits::bit_at(sm, v) == 1,
-        _ => bits::bit_at(t, v) == 1,
+    if k < 4 {
+        if k == 2 {
+            return bits::bit_at(x, v) == 1;
+        }
+        if k == 3 {
+            return bits::bit_at(y, v) == 1;
+        }
+        return bits::bit_at(t, v) == 1;
     }
+    if k == 4 {
+        return bits::bit_at(m, v) == 1;
+    }
+    if k == 5 {
+        return bits::bit_at(sm, v) == 1;
+    }
+    bits::bit_at(t, v) == 1
 }
 
 // "constant (two's complement)": the value as a number of w bits.
@@ -87,8 +97,10 @@ pub fn load(w: usize, o: Operand, x: &[u8], y: &[u8], m: &[u8], d: &[i16], tv: &
     requires { ⌜ o .value < 2 ^ 32 ⌝ }
     ensures { λ r. ⌜ ((sm t : List ℕ) → r ≡ loadOf w o (memory (now (x .entry)) (now (y .entry)) (now (m .entry)) sm t (now (d .entry)) (now (tv .entry)))) × (mag r < half w) ⌝ }
 {
-    if (o.kind == 7) & (o.value + 1 < d.len()) {
-        return words::number_in(d, o.value, w);
+    if o.kind == 7 {
+        if o.value + 1 < d.len() {
+            return words::number_in(d, o.value, w);
+        }
     }
     if o.kind == 1 {
         return constant(w, o);
@@ -119,8 +131,10 @@ pub fn compared(w: usize, o: Operand, x: &[u8], y: &[u8], m: &[u8], d: &[i16], t
     ensures { λ r. ⌜ ((sm t : List ℕ) → r ≡ loadOf w o (memory (now (x .entry)) (now (y .entry)) (now (m .entry)) sm t (now (d .entry)) (now (tv .entry)))) × (mag r < half w) ⌝ }
 {
     let v = o.value;
-    if (o.kind == 7) & (v + 1 < d.len()) {
-        return words::number_in(d, v, w);
+    if o.kind == 7 {
+        if v + 1 < d.len() {
+            return words::number_in(d, v, w);
+        }
     }
     if o.kind == 1 {
         return constant(w, o);

@@ -1,28 +1,23 @@
 -- D where the table goes on, a constant, and else what `other` reads. Assumes nothing.
 use borrow.Author.Tests.{ne-eqb}
-use denote.Ref.{now}
 use native.Mathlib.Omega.{arith}
-use lib.ListN.{length, length-take}
-use Rattle.operands.proofs.Steps.{in-table, loaded-in, loaded-constant, loaded-other}
+use lib.ListN.{length-take}
+use Rattle.operands.proofs.Steps.{loaded-in, loaded-constant, loaded-other}
 use borrow.Author.Needs.{needs}
 use Rattle.operands.proofs.compared.Statement.{statement}
 use Rattle.operands.proofs.compared.Tie as tie
 
 number-in-requires : tie.Need-number-in-requires
-number-in-requires c κs =
-    let a = c .before .before .before .before .before .args in
-    in-table (a .o .kind) (a .o .value) (length (now (a .d))) (c .if1 .taken) .1
+number-in-requires c κs = c .if2 .taken
 
 returns : tie.Need-returns
-returns c = loaded-in _ _ _ _ _ _ _ (c .number-in .ok) (c .before .if1 .taken) (c .number-in .ensures)
+returns c = loaded-in _ _ _ _ _ _ _ (c .number-in .ok) (c .before .before .if1 .taken) (c .number-in .ensures)
 
 returns-2 : tie.Need-returns-2
-returns-2 c = loaded-constant _ _ _ _ _ _ _ (c .constant .ok) (c .before .if2 .taken) (c .constant .ensures)
+returns-2 c = loaded-constant _ _ _ _ _ _ _ (c .constant .ok) (c .before .if3 .taken) (c .constant .ensures)
 
 other-requires : tie.Need-other-requires
-other-requires c κs =
-    let at-if2 = c .before .before .before .before .before in
-    (at-if2 .before .before .before .before .before .before .before .pre, ne-eqb _ _ (at-if2 .if2 .left))
+other-requires c κs = (c .before .before .before .before .before .before .before .before .before .before .before .before .pre, ne-eqb _ _ (c .before .before .before .before .before .if3 .left))
 
 returns-3 : tie.Need-returns-3
 returns-3 c = loaded-other _ _ _ _ _ _ _ (c .other .ok) (c .other .ensures)
