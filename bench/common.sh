@@ -50,13 +50,13 @@ else
     note "cargo does not build for $target, so the reference is left out; $out/cargo.log says why"
 fi
 
-# The speed of short loops hangs on the place of the code (docs/BENCHMARKS.md). So the library stands first, whole, and main not ahead of it; and
-# run-check, run-move and run-answer, whose loops are short, set `aligned` to give those of C the best place. Then no place hangs on a driver's length.
+# The speed of short loops hangs on the place of the code (docs/BENCHMARKS.md). So the library stands first, whole, and main not ahead of it; and the
+# functions and loops of C begin at multiples of 64, which is their best place. Then no place hangs on a driver's length.
 compile() {
     made=$1
     shift
-    "$cc" -O2 -Wall -fno-reorder-functions ${aligned-} $defined -o "$out/$made" $static \
-        -Wl,--whole-archive target/staticlib/libhost.a -Wl,--no-whole-archive "$@" $reference || exit 1
+    "$cc" -O2 -Wall -fno-reorder-functions -falign-functions=64 -falign-loops=64 $defined -o "$out/$made" $static \
+        -Wl,--whole-archive target/staticlib/libhost.a -Wl,--no-whole-archive "$@" $reference -lm || exit 1
 }
 
 run() { ${emulator:+"$emulator"} "$@"; }
