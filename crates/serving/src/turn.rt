@@ -38,13 +38,13 @@ fn scanned(
     goes: &[usize; 2000],
     image: &mut [u8; 16890],
     s0: State,
-    now: u64,
+    moment: u64,
 ) -> State
     requires { ⌜ Made (now f) p ⌝ }
     requires { ⌜ Goes (now f) p (now goes) ⌝ }
 {
     let mut s = s0;
-    let n = times::units(s.counted, now);
+    let n = times::units(s.counted, moment);
     memory_scans::scan_ready(p, goes, f, image, 16890, n.units, BUDGET);
     s.counted = n.until;
     s.scans = one_more(s.scans);
