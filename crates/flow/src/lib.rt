@@ -122,15 +122,14 @@ pub fn stop(s: Machine) -> Machine
     r
 }
 
-// A load starts a rung, or pushes the flow on the block stack.
+// A load starts a rung, or pushes the flow on the block stack. What would be pushed is made ahead, so that the compiler chooses and does not jump.
 fn load(s: Machine, b: bool) -> Machine
     requires { ⌜ s .pc < 2 ^ 63 ⌝ }
     ensures { λ r. ⌜ r ≡ loaded s b ⌝ }
 {
-    if (s.flow == 0) | (s.action == 1) {
-        return make_flow(s, flow_of(b), s.blocks, s.branches);
-    }
-    make_flow(s, flow_of(b), pushed(s.blocks, is_on(s)), s.branches)
+    let more = pushed(s.blocks, is_on(s));
+    let n = if (s.flow == 0) | (s.action == 1) { s.blocks } else { more };
+    make_flow(s, flow_of(b), n, s.branches)
 }
 
 // LDI, ANI and ORI take the opposite of the bit.

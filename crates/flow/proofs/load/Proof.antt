@@ -1,26 +1,23 @@
-use mathlib.Core.Path.{refl}
-use Rattle.ec20.specs.Flow.{loaded, startsNow}
+-- The block stack as it is where a rung starts, else with the flow pushed. Assumes nothing.
+use mathlib.Core.Logic.{⊎-elim}
+use mathlib.Core.Path.{_≡_, refl, _∙_}
+use Rattle.ec20.specs.Basics.{pick}
+use Rattle.ec20.specs.Flow.{isOn, loaded, push, startsNow}
 use borrow.Author.Needs.{needs}
 use Rattle.flow.proofs.load.Statement.{statement}
 use Rattle.flow.proofs.load.Tie as tie
 
-returns : tie.Need-returns
-unfolding loaded startsNow
-returns c = rw (c .before .before .if1 .taken, c .make-flow .ensures, c .before .flow-of .ensures) refl
+-- the block stack that was chosen
+blocks-is : (c : tie.Joined1) → c .if1 .n ≡ pick (startsNow (c .before .before .before .before .before .args .s)) (c .before .before .before .before .before .args .s .blocks) (push (c .before .before .before .before .before .args .s .blocks) (isOn (c .before .before .before .before .before .args .s)))
+unfolding startsNow
+blocks-is c =
+    ⊎-elim (λ w. w .1 ∙ rw (w .0 .taken) refl) (λ w. w .1 ∙ rw (w .0 .left, c .before .before .before .pushed .ensures, c .before .before .before .before .is-on .ensures) refl) (c .if1 .came)
 
-returns-2 : tie.Need-returns-2
-unfolding loaded startsNow
-returns-2 c = rw (c .before .before .before .before .if1 .left, c .make-flow2 .ensures, c .before .pushed .ensures, c .before .before .is-on .ensures, c .before .before .before .flow-of2 .ensures) refl
+returns : tie.Need-returns
+unfolding loaded
+returns c = rw (c .make-flow .ensures, c .before .flow-of .ensures, blocks-is (c .before .before)) refl
 
 pub load-spec : {M : Type 1} → statement M
 load-spec =
     tie.close
-    (tie.spec
-    (λ c κs. search needs)
-    (λ c κs. search needs)
-    returns
-    (λ c κs. search needs)
-    (λ c κs. search needs)
-    (λ c κs. search needs)
-    (λ c κs. search needs)
-    returns-2)
+    (tie.spec (λ c κs. search needs) (λ c κs. search needs) (λ c κs. search needs) (λ c κs. search needs) returns)
