@@ -128,7 +128,11 @@ fn load(s: Machine, b: bool) -> Machine
     ensures { λ r. ⌜ r ≡ loaded s b ⌝ }
 {
     let more = pushed(s.blocks, is_on(s));
-    let n = if (s.flow == 0) | (s.action == 1) { s.blocks } else { more };
+    let n = if (s.flow == 0) | (s.action == 1) {
+        s.blocks
+    } else {
+        more
+    };
     make_flow(s, flow_of(b), n, s.branches)
 }
 
