@@ -1,8 +1,8 @@
 // Operands over the lent memory: what each reads and writes of it. A program touches memory only here: bits of X, Y, M, SM and T contacts,
 // D words and T values. Each contract is one equation over the whole memory, whatever the tables are that a function does not hold.
 // A D word or pair behind which the table goes on is read and stored where it is asked for, and a constant is read there. What is rare (groups,
-// T values, none, and D at the table's end) stands in `other` and `store_other`. Each is called from two places and is too long to be inlined,
-// so that what calls it is short enough to be.
+// T values, none, and D at the table's end) stands in `other` and `store_other`. A group is stored by a call (`bits::scatter`), and what is rare is
+// read by one wherever it would make the step too long: docs/BENCHMARKS.md, 'Where the step stands', has what the compiler inlines.
 use ec20::Operand;
 use ec20::Outcome;
 ghost use mathlib.Core.Path.{_≡_};
