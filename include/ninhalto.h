@@ -103,7 +103,8 @@ void ninhalto_scan(const uint8_t *file, size_t file_size, const uint8_t *x, size
                    uint8_t *sm, size_t sm_size, uint8_t *t, size_t t_size, int16_t *d, size_t d_size, int16_t *tv, size_t tv_size,
                    uint32_t elapsed, uint32_t budget, size_t told[NINHALTO_TOLD]);
 
-/* The same with a budget of 1,000,000 steps. */
+/* The same with a budget of 200,000 steps. It never tells a watchdog of a file of which ninhalto_check tells 200,000 steps or fewer. A host that wants
+   more names its budget: ninhalto_scan. */
 void ninhalto_scan_unbudgeted(const uint8_t *file, size_t file_size, const uint8_t *x, size_t x_size, uint8_t *y, size_t y_size, uint8_t *m,
                               size_t m_size, uint8_t *sm, size_t sm_size, uint8_t *t, size_t t_size, int16_t *d, size_t d_size, int16_t *tv,
                               size_t tv_size, uint32_t elapsed, size_t told[NINHALTO_TOLD]);

@@ -10,7 +10,8 @@ use crate::refusal::Refusal;
 use crate::{labels, structure, words};
 
 pub const LONGEST_ELAPSED: u32 = 32767;
-pub const DEFAULT_BUDGET: u32 = 1_000_000;
+/// Of the entry that takes no budget: document 02, (vi).
+pub const DEFAULT_BUDGET: u32 = 200_000;
 
 #[derive(Clone, Copy, PartialEq, Eq, Debug)]
 pub struct Answer {

@@ -110,12 +110,10 @@ fn turn(seed: u64, turn: u64, tally: &mut Tally) {
     let mut rng = Rng::new(seed.wrapping_mul(0x1_0000_0000).wrapping_add(turn));
     let drawn = draw(&mut rng, turn as usize);
     let [number, _, _, steps] = checked(&drawn);
-    // A scan of all its steps only where that is quick.
+    // A scan of all its steps only where that is quick; without a budget it makes 200,000 at most.
     let budget = if steps > 100_000 { drawn.budget.min(30_000) } else { drawn.budget };
     let told = scanned(&drawn, Some(budget));
-    if steps <= 100_000 {
-        scanned(&drawn, None);
-    }
+    scanned(&drawn, None);
     mapped(&drawn);
     tally[0][number] += 1;
     tally[1][told] += 1;

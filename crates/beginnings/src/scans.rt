@@ -2,6 +2,7 @@
 // of the scan and after it.
 ghost use Rattle.calls.specs.Numbers.{isNumber, numberOf};
 ghost use Rattle.calls.specs.Text.{wordOf, countOf};
+ghost use Rattle.ec20.specs.Scan.{defaultBudget};
 ghost use Rattle.io.specs.Counts.{Counts};
 ghost use lib.Dec.{eqb};
 ghost use mathlib.Core.Bool.{true, cond, _&&_};
@@ -13,6 +14,7 @@ use calls::results;
 use calls::results::Outcome;
 use calls::text;
 use calls::texts;
+use ec20::DEFAULT_BUDGET;
 use ec20::Report;
 use ec20::Scanned;
 use telling::report;
@@ -24,16 +26,16 @@ pub struct Scan {
     pub good: bool,
 }
 
-// BUDGET is 1,000,000 where the call names none.
+// BUDGET is 200,000 where the call names none.
 fn budget(call: &[u8], err: i32) -> Number
-    ensures { λ r. ⌜ r .n ≡ cond (eqb (countOf (now (call .entry))) 5) (numberOf (wordOf (now (call .entry)) 4)) 1000000 ⌝ }
+    ensures { λ r. ⌜ r .n ≡ cond (eqb (countOf (now (call .entry))) 5) (numberOf (wordOf (now (call .entry)) 4)) defaultBudget ⌝ }
     ensures { λ r. ⌜ r .good ≡ cond (eqb (countOf (now (call .entry))) 5) (isNumber (wordOf (now (call .entry)) 4)) true ⌝ }
 {
     if text::count(call) == 5 {
         return numbers::word(call, 4, numbers::BUDGET, err);
     }
     Number {
-        n: 1_000_000,
+        n: DEFAULT_BUDGET,
         good: true,
     }
 }
@@ -41,7 +43,7 @@ fn budget(call: &[u8], err: i32) -> Number
 // Words 3 and 4.
 pub fn asked(call: &[u8], err: i32) -> Scan
     ensures { λ r. ⌜ r .elapsed ≡ numberOf (wordOf (now (call .entry)) 3) ⌝ }
-    ensures { λ r. ⌜ r .budget ≡ cond (eqb (countOf (now (call .entry))) 5) (numberOf (wordOf (now (call .entry)) 4)) 1000000 ⌝ }
+    ensures { λ r. ⌜ r .budget ≡ cond (eqb (countOf (now (call .entry))) 5) (numberOf (wordOf (now (call .entry)) 4)) defaultBudget ⌝ }
     ensures { λ r. ⌜ r .good ≡ (isNumber (wordOf (now (call .entry)) 3) && cond (eqb (countOf (now (call .entry))) 5) (isNumber (wordOf (now (call .entry)) 4)) true) ⌝ }
 {
     let elapsed = numbers::word(call, 3, numbers::ELAPSED, err);
@@ -101,11 +103,20 @@ fn tell_ran(
     results::not_tried()
 }
 
+// Where the call named no budget, what can be done about the watchdog is said after the answer.
+fn tell_stopped(call: &[u8], r: Report, image: &[u8; 16890], out: i32, err: i32) -> Outcome {
+    let o = tell_ran(call, texts::WATCHDOG, r, image, out, err);
+    if (o.status == 0) & (text::count(call) != 5) {
+        texts::say(err, texts::NAME_A_BUDGET, r.steps, 0, 0, 0);
+    }
+    o
+}
+
 // 1 to 8 are told of the program file, word 1, and 9 of the memory file, word 2.
 pub fn tell(call: &[u8], f: &[u8], s: Scanned, image: &[u8; 16890], out: i32, err: i32) -> Outcome {
     match s {
         Scanned::Ended(r) => tell_ran(call, texts::ENDED, r, image, out, err),
-        Scanned::Watchdog(r) => tell_ran(call, texts::WATCHDOG, r, image, out, err),
+        Scanned::Watchdog(r) => tell_stopped(call, r, image, out, err),
         Scanned::Refused { number, record } => {
             let word = text::word(call, 1 + number / 9);
             report::refused(word, f, number, record, out, err)

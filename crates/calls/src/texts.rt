@@ -133,6 +133,9 @@ pub const REFUSAL_15: usize = 148;
 // The part of the mixer's story that has them.
 pub const UNITS: usize = 149;
 
+// A scan that named no budget was stopped by the watchdog.
+pub const NAME_A_BUDGET: usize = 150;
+
 // Bytes to a descriptor. Answers the descriptor, or -1 where not all was written; nothing is written to -1. So what the last of a row of calls
 // answers tells of them all.
 pub fn put(to: i32, bytes: &[u8]) -> i32 {
@@ -302,7 +305,8 @@ split % record %\0\
 : refusal 10: over 64 declarations, or a block is empty or not inside D0 to D7999\n\0\
 : refusal 15 at line %, counted from 0: not UNIT (0 to 65535), NAME (eight bytes), START and LENGTH with one blank between, or not ended\n\0\
 \n2. What both units declare, examples/mixer.units: a clash, and a block that the program itself\n\
-\x20  reaches over:\n\0",
+\x20  reaches over:\n\0\
+ninhalto: stopped after % steps, since no BUDGET is named; as many as check tells are enough for any scan\n\0",
         k,
         a,
         b,

@@ -16,6 +16,9 @@ use memories::tables;
 use memory_scans::pairs;
 use turns::images;
 
+// The most steps that a scan of a trial may take, which is more than one without a budget may (document 02, (vi)).
+const BUDGET: u32 = 1_000_000;
+
 // n scans of each program, which is checked and made ready once, the old one over memory a, the new one over memory b, in which block and place are
 // exchanged. The inputs are drawn anew before each. Of an accepted move none differs.
 fn scans(
@@ -39,7 +42,7 @@ fn scans(
     let mut state: u32 = 1;
     while k < n {
         state = images::draw_inputs(a, b, state);
-        let t = pairs::pair(old, p, &old_goes, new, q, &new_goes, a, b, w, 1, 1_000_000);
+        let t = pairs::pair(old, p, &old_goes, new, q, &new_goes, a, b, w, 1, BUDGET);
         s = shown::scan(s, k, n, t, err);
         k += 1;
     }

@@ -25,3 +25,5 @@ pub mod Events
 pub mod Demand1
 pub mod Demand2
 pub mod Demand3
+-- The entry without a budget
+pub mod Budget

@@ -107,7 +107,7 @@ module _ (v : Device) (f : List ℕ) (e b : ℕ) (c : Memory) where
   unfolding scanFor
   scan-unfit m k h = rw h
 
-  scan-misfit : Accepts v f → Line9 v e c → scanFor v f e b c ≡ scan (Refused 9 0) c
+  pub scan-misfit : Accepts v f → Line9 v e c → scanFor v f e b c ≡ scan (Refused 9 0) c
   unfolding scanFor
   scan-misfit ok n = rw (ok .2, fits-not n (fitting v e c) refl)
 

@@ -117,7 +117,7 @@ pub record AnswerNumbers (own : ℕ) (f m : List ℕ) (d : List ℤ) (b : List �
       → (answerOf own f m d b .m ≡ m) × (answerOf own f m d b .d ≡ d) × (answerOf own f m d b .reply ≡ b)
 
 -- THE DEMAND, of every input: nothing is asked of it. On the EC20: `checkOf f` is `checkFor ec20 f`, and so it is with the others; the entry that takes
--- no budget is a scan with one of 1,000,000.
+-- no budget is a scan with one of 200,000 (specs/Budget.antt).
 pub record Demand1 : Type 0 where
   -- "every scan ends"
   pub ends : (f : List ℕ) (e b : ℕ) (c : Memory) → Ends b (scanFor ec20 f e b c .answer)

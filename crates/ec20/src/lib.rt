@@ -169,6 +169,9 @@ pub enum Scanned {
     Refused { number: usize, record: usize },
 }
 
+// The budget of a scan whose call names none: defaultBudget of specs/Scan.antt.
+pub const DEFAULT_BUDGET: u32 = 200_000;
+
 // ---- map, mover, exchange
 
 // number 0: not refused.

@@ -5,6 +5,7 @@ ghost use Rattle.ec20.specs.Scan.{scan, scanOf, plainScan};
 ghost use Rattle.engine.specs.Made.{Made, Goes};
 ghost use mathlib.Core.Bool.{true, false};
 ghost use mathlib.Core.Path.{_≡_};
+use ec20::DEFAULT_BUDGET;
 use ec20::Frame;
 use ec20::Scanned;
 use ec20::Verdict;
@@ -159,7 +160,7 @@ pub fn scan_file(
     scan_ready(p, &goes, f, x, y, m, sm, t, d, tv, elapsed, budget)
 }
 
-// The scan that takes no budget uses 1,000,000 steps.
+// The scan that takes no budget uses 200,000 steps.
 pub fn scan_unbudgeted(
     f: &[u8],
     x: &[u8],
@@ -173,5 +174,5 @@ pub fn scan_unbudgeted(
 ) -> Scanned
     ensures { λ r. ⌜ scan r (memory (now (x .entry)) (now (y .exit)) (now (m .exit)) (now (sm .exit)) (now (t .exit)) (now (d .exit)) (now (tv .exit))) ≡ plainScan (now (f .entry)) elapsed (memory (now (x .entry)) (now (y .entry)) (now (m .entry)) (now (sm .entry)) (now (t .entry)) (now (d .entry)) (now (tv .entry))) ⌝ }
 {
-    scan_file(f, x, y, m, sm, t, d, tv, elapsed, 1_000_000)
+    scan_file(f, x, y, m, sm, t, d, tv, elapsed, DEFAULT_BUDGET)
 }

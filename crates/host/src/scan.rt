@@ -38,7 +38,7 @@ pub extern "C" fn ninhalto_scan(
     *told = seven(engine::scan_file(f, x, y, m, sm, t, d, tv, elapsed, budget));
 }
 
-// The entry that takes no budget: 1,000,000 steps.
+// The entry that takes no budget: 200,000 steps.
 #[no_mangle]
 pub extern "C" fn ninhalto_scan_unbudgeted(
     f: &[u8],

@@ -10,7 +10,7 @@ use modbus::Answered;
 use serial::held;
 use serial::times;
 
-// The most steps that a scan may take.
+// The most steps that a scan of a slave may take, which is more than one without a budget may (document 02, (vi)).
 pub const BUDGET: u32 = 1_000_000;
 
 fn one_more(n: usize) -> usize {

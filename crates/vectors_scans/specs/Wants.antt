@@ -1,6 +1,7 @@
 -- How many entries of a table a case lends, and an answer as a case has it.
 use Prim.Native.Nat.{ℕ, _+_, _-_, min}
-use lib.Dec.{eqb}
+use mathlib.Core.Bool.{Bool, not, _&&_, _||_}
+use lib.Dec.{eqb, leb}
 use Rattle.ec20.specs.Basics.{pick}
 use Rattle.ec20.specs.declared.Report.{Report}
 use Rattle.ec20.specs.declared.Scanned.{Scanned}
@@ -24,3 +25,8 @@ abbrev pub toldBy : Scanned → Answer
 toldBy (Ended r) = ran 1 r
 toldBy (Watchdog r) = ran 2 r
 toldBy (Refused n k) = record { number = n; told = k; kind = 0; steps = 0; stop = 0; error = 0; at = 0 }
+
+-- whether a scan without a budget answers the same: 200,000 is the budget, or the answer does not hang on it, since the call is refused or the
+-- scan ended within so many steps
+abbrev pub plainToo : Answer → ℕ → Bool
+plainToo w budget = eqb budget 200000 || (not (eqb (w .kind) 2) && leb (w .steps) 200000)

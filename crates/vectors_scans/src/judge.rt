@@ -1,7 +1,7 @@
 // The answer of a scan, and whether it is the one wanted.
 ghost use mathlib.Core.Bool.{true};
 ghost use mathlib.Core.Path.{_≡_};
-ghost use Rattle.vectors_scans.specs.Wants.{ran, toldBy};
+ghost use Rattle.vectors_scans.specs.Wants.{ran, toldBy, plainToo};
 use ec20::Report;
 use ec20::Scanned;
 
@@ -65,4 +65,11 @@ pub fn agrees(s: Scanned, want: Answer) -> bool
     ensures { λ r. ⌜ (r ≡ true → toldBy s ≡ want) × (toldBy s ≡ want → r ≡ true) ⌝ }
 {
     same_answer(told(s), want)
+}
+
+// Whether a scan without a budget answers the same.
+pub fn is_plain(w: Answer, budget: u32) -> bool
+    ensures { λ r. ⌜ r ≡ plainToo w budget ⌝ }
+{
+    (budget == 200000) | (!(w.kind == 2) & (w.steps <= 200000))
 }

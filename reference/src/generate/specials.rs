@@ -1,11 +1,13 @@
 //! Files that stand for themselves: the document's own, and the largest and smallest.
 
 use super::files::of_length;
+use super::program::{program, Plan};
 use super::rng::Rng;
 use super::structure_faults::{any_steps, exact_steps, never_entered};
-use crate::compose::{d, end, file, k, record, sm, with_flow};
+use crate::check::check;
+use crate::compose::{d, end, file, k, label, m, record, sm, with_flow};
 use crate::file::{encode, Record};
-use crate::instruction::Instruction::{Ddiv, Dmov, For, Inc, Ld, Mov, Next, Nop};
+use crate::instruction::Instruction::{Cj, Ddiv, Dmov, For, Inc, Lbl, Ld, Mov, Next, Nop};
 
 /// FOR 1000, FOR 9997, NEXT, NEXT, so many NOP, END.
 pub fn ten_million(nops: usize) -> Vec<Record> {
@@ -19,6 +21,35 @@ pub fn ten_million(nops: usize) -> Vec<Record> {
 /// FOR 3, LD SM0, INC D0, NEXT, END.
 pub fn three_passes() -> Vec<Record> {
     vec![record(For, &[k(3)]), record(Ld, &[sm(0)]), record(Inc, &[d(0)]), record(Next, &[]), end()]
+}
+
+/// FOR 4878, FOR 13, LD SM0, INC D0, NEXT, NEXT, so many NOP, END: with none it needs 200,000 steps.
+pub fn counting_up(nops: usize) -> Vec<Record> {
+    let mut records = vec![record(For, &[k(4878)]), record(For, &[k(13)])];
+    records.extend([record(Ld, &[sm(0)]), record(Inc, &[d(0)])]);
+    records.extend([record(Next, &[]), record(Next, &[])]);
+    records.extend(vec![record(Nop, &[]); nops]);
+    records.push(end());
+    records
+}
+
+/// LD M0, CJ P1, FOR 100, FOR 32767, NEXT, NEXT, LBL P1, END: 4 steps with M0 on, else over three million.
+pub fn long_way_round() -> Vec<Record> {
+    let mut records = vec![record(Ld, &[m(0)]), record(Cj, &[label(1)])];
+    records.extend([record(For, &[k(100)]), record(For, &[k(32767)])]);
+    records.extend([record(Next, &[]), record(Next, &[]), record(Lbl, &[label(1)]), end()]);
+    records
+}
+
+/// A program whose W is above this.
+pub fn over_steps(rng: &mut Rng, steps: u32) -> Vec<Record> {
+    loop {
+        let plan = Plan { records: 30, steps: 1_000_000, loops: 3 };
+        let records = program(rng, plan).records;
+        if check(&file(&records)).is_ok_and(|accepted| accepted.steps > steps) {
+            return records;
+        }
+    }
 }
 
 /// A program whose W is exactly this.

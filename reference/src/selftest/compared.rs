@@ -1,12 +1,13 @@
-//! The cases that document 01 wants run and compared.
+//! The cases that document 01 wants run and compared, and the one of document 02, (vi).
 
 use super::{line, told, Line};
 use crate::compose::{d, end, file, k, record, sm, with_flow};
 use crate::file::Record;
+use crate::generate::specials::counting_up;
 use crate::instruction::Instruction;
 use crate::memory::{put_bit, Memory};
 use crate::mover::{move_block, Block, Pool};
-use crate::scan::scan;
+use crate::scan::{scan, scan_default};
 
 fn long_program(nops: usize) -> Vec<Record> {
     let mut records = vec![
@@ -92,6 +93,18 @@ fn budgets_around_end() -> String {
     found
 }
 
+/// Without a budget: a program that needs 200,000 steps, and the same with one NOP more.
+fn without_budget() -> String {
+    let mut found = String::new();
+    for nops in [0, 1] {
+        let mut memory = Memory::zero();
+        if let Ok(a) = scan_default(&file(&counting_up(nops)), &mut memory, 0) {
+            found += &format!("{} {} {} {};", a.ended, a.steps, a.record, memory.d[0]);
+        }
+    }
+    found
+}
+
 pub fn lines() -> Vec<Line> {
     let whole = "accepted records 1003 steps 10000000";
     vec![
@@ -108,6 +121,11 @@ pub fn lines() -> Vec<Line> {
             "budgets around the end of T9",
             "true 11 4 3;false 10 4 3;false 4 1 1;",
             budgets_around_end(),
+        ),
+        line(
+            "200,000 and 200,001 steps without a budget",
+            "true 200000 6 -2122;false 200000 7 -2122;",
+            without_budget(),
         ),
     ]
 }

@@ -14,6 +14,13 @@ use crate::generate::specials;
 use crate::memory::IMAGE;
 use crate::scan::DEFAULT_BUDGET;
 
+/// The budget of the cases that try no other. It was that of the entry that takes none.
+const NAMED: u32 = 1_000_000;
+
+/// How many cases are of the budget of the entry that takes none. They stand last: those ahead of them are as they
+/// were when that was another.
+const DEFAULTS: usize = 100;
+
 struct Batch {
     cases: Vec<ScanCase>,
     kept: Vec<u8>,
@@ -37,9 +44,34 @@ impl Batch {
         for budget in [0, 1, 4, 10, 11, 12, u32::MAX] {
             self.add(&passes, zero.clone(), 5, budget);
         }
-        for steps in [u64::from(DEFAULT_BUDGET), u64::from(DEFAULT_BUDGET) + 1] {
+        for steps in [u64::from(NAMED), u64::from(NAMED) + 1] {
+            let file = specials::of_steps(rng, steps);
+            self.add(&file, zero.clone(), 0, NAMED);
+        }
+    }
+
+    /// The budget of the entry that takes none: programs that need just as many steps, one less, one more; a jump over
+    /// too many; and programs that may need more, with that budget and with another.
+    fn defaults(&mut self, rng: &mut Rng, count: usize) {
+        let zero = MemorySpec { rule: ZERO, ..MemorySpec::default() };
+        for steps in [199_999, 200_000, 200_001, 200_002, 1_000_000, 10_000_000] {
             let file = specials::of_steps(rng, steps);
             self.add(&file, zero.clone(), 0, DEFAULT_BUDGET);
+        }
+        for nops in 0..3 {
+            let file = compose::file(&specials::counting_up(nops));
+            self.add(&file, zero.clone(), 0, DEFAULT_BUDGET);
+        }
+        let file = compose::file(&specials::long_way_round());
+        for rule in [ZERO, ONES] {
+            self.add(&file, MemorySpec { rule, ..zero.clone() }, 0, DEFAULT_BUDGET);
+        }
+        while self.cases.len() < count {
+            let records = specials::over_steps(rng, DEFAULT_BUDGET);
+            let file = crate::file::encode(&comment(rng), &records);
+            let (spec, units) = (memory(rng, &records), elapsed(rng));
+            self.add(&file, spec.clone(), units, DEFAULT_BUDGET);
+            self.add(&file, spec, units, NAMED);
         }
     }
 
@@ -47,17 +79,17 @@ impl Batch {
     fn edges(&mut self, rng: &mut Rng) {
         for file in edge_programs::files(rng) {
             let rule = rng.pick(&[ZERO, ONES]);
-            self.add(&file, MemorySpec { rule, ..MemorySpec::default() }, 0, DEFAULT_BUDGET);
+            self.add(&file, MemorySpec { rule, ..MemorySpec::default() }, 0, NAMED);
         }
     }
 
     /// One program: a scan, a second one on what it left, and others with tight budgets.
     fn accepted(&mut self, rng: &mut Rng, records: &[Record]) {
         let file = crate::file::encode(&comment(rng), records);
-        self.add(&file, memory(rng, records), elapsed(rng), DEFAULT_BUDGET);
+        self.add(&file, memory(rng, records), elapsed(rng), NAMED);
         let kept = MemorySpec { rule: KEPT, ..MemorySpec::default() };
-        self.add(&file, kept, elapsed(rng), rng.pick(&[DEFAULT_BUDGET, u32::MAX]));
-        self.add(&file, memory(rng, records), elapsed(rng), DEFAULT_BUDGET);
+        self.add(&file, kept, elapsed(rng), rng.pick(&[NAMED, u32::MAX]));
+        self.add(&file, memory(rng, records), elapsed(rng), NAMED);
         let steps = self.steps();
         let again = self.cases.last().map(|case| (case.memory.clone(), case.elapsed));
         if let Some((same, units)) = again {
@@ -73,9 +105,9 @@ impl Batch {
         let file = compose::file(&records);
         let misfit = Misfit { table: turn as u32 % 7 + 1, way: turn as u32 / 7 % 3 };
         let spec = memory(rng, &records);
-        self.add(&file, MemorySpec { misfit, ..spec.clone() }, elapsed(rng), DEFAULT_BUDGET);
+        self.add(&file, MemorySpec { misfit, ..spec.clone() }, elapsed(rng), NAMED);
         let too_long = rng.pick(&[32768, 32769, 65535, 65536, u32::MAX]);
-        self.add(&file, spec, too_long, rng.pick(&[0, DEFAULT_BUDGET]));
+        self.add(&file, spec, too_long, rng.pick(&[0, NAMED]));
     }
 
     /// Refusals 1 to 8, also where 9 holds as well.
@@ -88,7 +120,7 @@ impl Batch {
             compose::file(&aimed(rng, number, turn / 8).records)
         };
         let units = if rng.once_in(3) { 40_000 } else { elapsed(rng) };
-        self.add(&file, memory(rng, &[]), units, DEFAULT_BUDGET);
+        self.add(&file, memory(rng, &[]), units, NAMED);
     }
 }
 
@@ -97,7 +129,8 @@ pub fn scan_cases(rng: &mut Rng, count: usize) -> Vec<ScanCase> {
     batch.specials(rng);
     batch.edges(rng);
     let mut turn = 0;
-    while batch.cases.len() < count {
+    let first = count.saturating_sub(DEFAULTS);
+    while batch.cases.len() < first {
         match turn % 20 {
             7 => batch.wrong_sizes(rng, turn / 20),
             13 | 14 => batch.refused(rng, turn / 20 * 2 + turn % 2),
@@ -113,6 +146,8 @@ pub fn scan_cases(rng: &mut Rng, count: usize) -> Vec<ScanCase> {
         }
         turn += 1;
     }
+    batch.cases.truncate(first);
+    batch.defaults(rng, count);
     batch.cases.truncate(count);
     batch.cases
 }

@@ -13,12 +13,7 @@ returns-3 : tie.Need-returns-3
 returns-3 c = rw (c .match .keys3)
 
 returns-4 : tie.Need-returns-4
-returns-4 c = rw (c .match .keys4)
-
-returns-5 : tie.Need-returns-5
-returns-5 c =
-    let r = c .match .rest in
-    rw (ne-eqb _ 0 (r .0 .0 .0 .1), ne-eqb _ 1 (r .0 .0 .1), ne-eqb _ 4294967295 (r .0 .1), ne-eqb _ 1000000 (r .1))
+returns-4 c = let r = c .match .rest in rw (ne-eqb _ 0 (r .0 .0 .1), ne-eqb _ 1 (r .0 .1), ne-eqb _ 4294967295 (r .1))
 
 pub of-budget-spec : {M : Type 1} → statement M
-of-budget-spec = tie.close (tie.spec returns returns-2 returns-3 returns-4 returns-5)
+of-budget-spec = tie.close (tie.spec returns returns-2 returns-3 returns-4)
