@@ -8,8 +8,10 @@ use ninhalto_reference::generate::files::{broken_frame, damaged, garbage};
 use ninhalto_reference::generate::memories;
 use ninhalto_reference::generate::program::{small, Made};
 use ninhalto_reference::generate::rng::Rng;
+use ninhalto_reference::generate::specials::over_steps;
 use ninhalto_reference::memory::Memory;
 use ninhalto_reference::mover::{Block, Pool};
+use ninhalto_reference::scan::DEFAULT_BUDGET;
 
 pub struct Drawn {
     pub file: Vec<u8>,
@@ -24,13 +26,15 @@ pub struct Drawn {
     pub frame: Vec<u8>,
 }
 
-/// Seven of eight turns damage a file in some way; the eighth leaves it whole.
+/// Seven of eight turns damage a file in some way; the eighth leaves it whole. One of 256 has a program that may need more
+/// steps than a scan without a budget makes.
 fn file(rng: &mut Rng, made: &Made, turn: usize) -> Vec<u8> {
     match turn % 8 {
         0 => garbage(rng),
         1 => broken_frame(rng, &made.records, turn / 8),
         2 => compose::file(&aimed(rng, turn as u32 / 8 % 7 + 2, turn / 56).records),
         3 => compose::file(&aimed_twice(rng, turn / 8).records),
+        7 if turn % 256 == 255 => compose::file(&over_steps(rng, DEFAULT_BUDGET)),
         7 => compose::file(&made.records),
         _ => damaged(rng, &made.records),
     }

@@ -13,8 +13,9 @@ use ninhalto_reference::refusal::Refusal;
 use ninhalto_reference::scan::Answer;
 use ninhalto_reference::{check, exchange, mover, scan, usemap};
 
-/// How often each number was told, 0 for no refusal: by check, scan, move, exchange, answer.
-type Tally = [[u64; 17]; 5];
+/// How often each number was told, 0 for no refusal: by check, scan, move, exchange, answer. Last, of the scan without a
+/// budget, how often it was refused (0), ended (1) and was stopped (2).
+type Tally = [[u64; 17]; 6];
 
 fn pair(refusal: Refusal) -> [usize; 2] {
     [refusal.number as usize, refusal.record as usize]
@@ -47,7 +48,7 @@ fn seven(answer: Result<Answer, Refusal>) -> [usize; 7] {
     }
 }
 
-fn scanned(drawn: &Drawn, budget: Option<u32>) -> usize {
+fn scanned(drawn: &Drawn, budget: Option<u32>) -> [usize; 7] {
     let (mut ours, mut theirs): (Memory, Memory) = (drawn.memory.clone(), drawn.memory.clone());
     let told = proved::scan(&drawn.file, &mut ours, drawn.elapsed, budget);
     let answer = match budget {
@@ -56,7 +57,7 @@ fn scanned(drawn: &Drawn, budget: Option<u32>) -> usize {
     };
     assert_eq!(told, seven(answer), "scan");
     assert!(ours == theirs, "the memory after a scan");
-    told[0]
+    told
 }
 
 fn mapped(drawn: &Drawn) {
@@ -113,13 +114,14 @@ fn turn(seed: u64, turn: u64, tally: &mut Tally) {
     // A scan of all its steps only where that is quick; without a budget it makes 200,000 at most.
     let budget = if steps > 100_000 { drawn.budget.min(30_000) } else { drawn.budget };
     let told = scanned(&drawn, Some(budget));
-    scanned(&drawn, None);
+    let plain = scanned(&drawn, None);
     mapped(&drawn);
     tally[0][number] += 1;
-    tally[1][told] += 1;
+    tally[1][told[0]] += 1;
     tally[2][moved(&drawn)] += 1;
     tally[3][exchanged(&drawn)] += 1;
     tally[4][answered(&drawn)] += 1;
+    tally[5][plain[2]] += 1;
 }
 
 fn main() {
@@ -128,7 +130,7 @@ fn main() {
         eprintln!("robustness SEED COUNT");
         std::process::exit(2);
     };
-    let mut tally: Tally = [[0; 17]; 5];
+    let mut tally: Tally = [[0; 17]; 6];
     for i in 0..count {
         if std::panic::catch_unwind(std::panic::AssertUnwindSafe(|| turn(seed, i, &mut tally)))
             .is_err()
@@ -137,7 +139,8 @@ fn main() {
             std::process::exit(1);
         }
     }
-    for (name, row) in ["check", "scan", "move", "exchange", "answer"].iter().zip(tally) {
+    let names = ["check", "scan", "move", "exchange", "answer", "no budget"];
+    for (name, row) in names.iter().zip(tally) {
         let told: Vec<String> = row
             .iter()
             .enumerate()
