@@ -1,5 +1,5 @@
 -- The theorems hold of a real file: a loop with a FOR 0 over a loop inside it, a jump over a loop, inside the loop and outside it.
-use Prim.Native.Nat.{ℕ, zero, suc, _<_, _≤_}
+use Prim.Native.Nat.{ℕ, _≤_}
 use mathlib.Core.Bool.{true, false}
 use mathlib.Core.List.{List, [], _∷_}
 use mathlib.Core.Path.{_≡_, refl}
@@ -7,6 +7,7 @@ use native.Mathlib.Omega.{arith}
 use lib.ListN.{replicate}
 use Rattle.ec20.specs.declared.Verdict.the-variants.{Accepted}
 use Rattle.ec20.specs.declared.Control.the-variants.{Jumps}
+use Rattle.ec20.specs.Basics.{some-below}
 use Rattle.ec20.specs.Devices.{ec20}
 use Rattle.ec20.specs.Check.{checkFor, checkOf}
 use Rattle.ec20.specs.Code.{programOf}
@@ -19,7 +20,7 @@ use Rattle.ec20.proofs.Files.{X, Y, M, r0, r1, LD, FOR, NEXT, CJ, LBL, file, t9
 use Rattle.bound.specs.Scans.{Quiet, EndsIn}
 use Rattle.bound.proofs.LabelRule.{label-rule}
 use Rattle.bound.proofs.Accepted.{accepted-right}
-use Rattle.bound.proofs.Theorem.{at-most-w, due-inside, no-jumps, scan-of-ends}
+use Rattle.bound.proofs.Theorem.{isJump, at-most-w, exactly-w, no-jump, scan-of-ends}
 
 abbrev real : List ℕ
 real =
@@ -98,17 +99,12 @@ t9-ok : checkFor ec20 t9 ≡ Accepted 5 11
 unfolding computing
 t9-ok = refl
 
-t9-straight : (k l : ℕ) → k < 5 → controlsOf (programOf t9) k ≡ Jumps l → ⊥
+t9-straight : some-below 5 (λ k. isJump (controlsOf (programOf t9) k)) ≡ false
 unfolding computing
-t9-straight zero l h e = let z : _≡_ {A = ℕ} 0 1 = cc in omega arith
-t9-straight (suc zero) l h e = let z : _≡_ {A = ℕ} 0 1 = cc in omega arith
-t9-straight (suc (suc zero)) l h e = let z : _≡_ {A = ℕ} 0 1 = cc in omega arith
-t9-straight (suc (suc (suc zero))) l h e = let z : _≡_ {A = ℕ} 0 1 = cc in omega arith
-t9-straight (suc (suc (suc (suc zero)))) l h e = let z : _≡_ {A = ℕ} 0 1 = cc in omega arith
-t9-straight (suc (suc (suc (suc (suc k))))) l h e = omega arith
-
-t9-steps : (e b : ℕ) (c : Memory) → 11 ≤ b → runOf (programOf t9) e b 0 (startWorld ec20 c) .steps ≡ 11
-t9-steps e b c h = no-jumps ec20 t9 5 11 t9-ok e c b h t9-straight
+t9-straight = refl
 
 pub t9-quiet : (e : ℕ) (c : Memory) → Quiet (programOf t9) e (startWorld ec20 c)
-t9-quiet e c = λ n l y. absurd (t9-straight _ l (due-inside ec20 t9 5 11 t9-ok e c n) y)
+t9-quiet e c = no-jump ec20 t9 5 11 t9-ok e c t9-straight
+
+t9-steps : (e b : ℕ) (c : Memory) → 11 ≤ b → runOf (programOf t9) e b 0 (startWorld ec20 c) .steps ≡ 11
+t9-steps e b c h = exactly-w ec20 t9 5 11 t9-ok e c b h (t9-quiet e c)

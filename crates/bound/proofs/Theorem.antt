@@ -3,14 +3,15 @@ use Prim.Native.Nat.{ℕ, suc, _<_, _≤_}
 use mathlib.Core.Bool.{Bool, true, false}
 use mathlib.Core.Logic.{_⊎_, inl, inr}
 use mathlib.Core.List.{List}
-use mathlib.Core.Path.{_≡_, refl, ap, _∙_}
+use mathlib.Core.Path.{_≡_, refl, sym, ap, _∙_}
 use native.Mathlib.Omega.{arith}
-use Rattle.ec20.specs.declared.Control.the-variants.{Jumps}
+use Rattle.ec20.specs.declared.Control.{Control}
+use Rattle.ec20.specs.declared.Control.the-variants.{Plain, Opens, Closes, Jumps, Marks, Ends}
 use Rattle.ec20.specs.declared.Machine.{Machine}
 use Rattle.ec20.specs.declared.Report.{Report}
 use Rattle.ec20.specs.declared.Scanned.the-variants.{Ended, Watchdog, Refused}
 use Rattle.ec20.specs.declared.Verdict.the-variants.{Accepted}
-use Rattle.ec20.specs.Basics.{pick}
+use Rattle.ec20.specs.Basics.{pick, some-below}
 use Rattle.ec20.specs.Devices.{Device, ec20}
 use Rattle.ec20.specs.Code.{programOf}
 use Rattle.ec20.specs.Control.{controlsOf}
@@ -21,6 +22,8 @@ use Rattle.ec20.specs.Scan.{Run, runOf, startWorld, scan, answerOf, runScan, fi
 use Rattle.bound.specs.Small.{State, control, moveOn}
 use Rattle.bound.specs.Safe.{Safe, AtEnd}
 use Rattle.bound.specs.Scans.{Quiet, EndsIn}
+use Rattle.ec20.proofs.Some.{none-at}
+use Rattle.ec20.proofs.Tests.{differ}
 use Rattle.ec20.proofs.NoFault.{accepted-program, accepted-count, accepted-some, accepted-steps}
 use Rattle.bound.proofs.Engine.{step-same}
 use Rattle.bound.proofs.Runs.{run-more, Kept, from-start}
@@ -29,6 +32,15 @@ use Rattle.bound.proofs.Runs.{run-more, Kept, from-start}
 answer-ended : (k : ℕ) (s : Machine) → s .ended ≡ 1 → answerOf k s ≡ Ended (record { steps = k; stop = s .pc; error = s .error; at = s .at })
 unfolding answerOf
 answer-ended k s z = rw z
+
+-- whether it is a CJ
+abbrev pub isJump : Control → Bool
+isJump Plain = false
+isJump (Opens n) = false
+isJump Closes = false
+isJump (Jumps l) = true
+isJump (Marks l) = false
+isJump Ends = false
 
 -- a file that the check accepts, with n records and W = w; any device, elapsed units and memory
 module _ (v : Device) (f : List ℕ) (n w : ℕ) (ok : checkFor v f ≡ Accepted n w) (e : ℕ) (c : Memory) where
@@ -75,9 +87,12 @@ module _ (v : Device) (f : List ℕ) (n w : ℕ) (ok : checkFor v f ≡ Accepted
   pub due-inside : (b : ℕ) → run b .after .st .pc < n
   due-inside b = rw (← accepted-count v f n w ok) (elim (each-safe b) [ inl x ↦ let y = x .last in omega arith | inr x ↦ x .inside ])
 
-  -- so in a program with no CJ
-  pub no-jumps : (b : ℕ) → w ≤ b → ((k l : ℕ) → k < n → controlsOf (programOf f) k ≡ Jumps l → ⊥) → run b .steps ≡ w
-  no-jumps b h x = exactly-w b h (λ j l y. absurd (x _ l (due-inside j) y))
+  -- so in a program with no CJ, which is one computed test
+  pub no-jump : some-below n (λ k. isJump (controlsOf (programOf f) k)) ≡ false → Quiet (programOf f) e (startWorld v c)
+  no-jump h = λ j l y.
+      let k = run j .after .st .pc in
+      let a = none-at (λ k. isJump (controlsOf (programOf f) k)) 0 n h k (omega arith) (omega (arith, due-inside j)) in
+      differ (sym (ap isJump y) ∙ a)
 
   -- The scan's answer, of memory that fits: ended, in at most W steps
   pub scan-ends : (b : ℕ) → w ≤ b → fitting v e c ≡ true → EndsIn (scanFor v f e b c .answer) n w

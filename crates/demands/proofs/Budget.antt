@@ -1,5 +1,6 @@
 -- THE ENTRY WITHOUT A BUDGET: without-budget. Its words and its statement are in specs/Budget.antt.
-use Prim.Native.Nat.{ℕ, zero, suc, _≤_, _<_}
+use Prim.Native.Nat.{ℕ, _≤_, _<_}
+use mathlib.Core.Bool.{false}
 use mathlib.Core.List.{List, [], _∷_}
 use mathlib.Core.Logic.{inl}
 use mathlib.Core.Path.{_≡_, refl, sym, ap, _∙_}
@@ -7,20 +8,20 @@ use native.Mathlib.Decide.{decLt}
 use native.Mathlib.Omega.{arith}
 use Rattle.ec20.proofs.Computing.{computing}
 use Rattle.ec20.proofs.Files.{FOR, NEXT, NOP, END, file}
-use Rattle.ec20.specs.declared.Control.the-variants.{Jumps}
 use Rattle.ec20.specs.declared.Machine.{Machine}
 use Rattle.ec20.specs.declared.Report.{Report}
 use Rattle.ec20.specs.declared.Scanned.{Scanned}
 use Rattle.ec20.specs.declared.Scanned.the-variants.{Ended, Watchdog, Refused}
 use Rattle.ec20.specs.declared.Verdict.the-variants.{Accepted}
+use Rattle.ec20.specs.Basics.{some-below}
 use Rattle.ec20.specs.Check.{checkFor, checkOf}
 use Rattle.ec20.specs.Code.{programOf}
 use Rattle.ec20.specs.Control.{controlsOf}
 use Rattle.ec20.specs.Devices.{Device, ec20}
 use Rattle.ec20.specs.Memory.{Memory}
-use Rattle.ec20.specs.Scan.{Scan, startWorld, scanFor, scanOf, plainScan}
-use Rattle.bound.specs.Scans.{Quiet, EndsIn}
-use Rattle.bound.proofs.Theorem.{due-inside}
+use Rattle.ec20.specs.Scan.{Scan, scanFor, scanOf, plainScan}
+use Rattle.bound.specs.Scans.{EndsIn}
+use Rattle.bound.proofs.Theorem.{isJump, no-jump}
 use Rattle.demands.specs.Budget.{Budgets, StoppedAfter, WithoutBudget}
 use Rattle.demands.specs.Lines.{Not9}
 use Rattle.demands.specs.Steps.{Answer, ended, watchdog, Counted, reportOf}
@@ -119,22 +120,12 @@ more-ok : checkOf more ≡ Accepted 6 200001
 unfolding computing
 more-ok = refl
 
-more-straight : (k l : ℕ) → k < 6 → controlsOf (programOf more) k ≡ Jumps l → ⊥
+more-straight : some-below 6 (λ k. isJump (controlsOf (programOf more) k)) ≡ false
 unfolding computing
-more-straight zero l h e = let z : _≡_ {A = ℕ} 0 1 = cc in omega arith
-more-straight (suc zero) l h e = let z : _≡_ {A = ℕ} 0 1 = cc in omega arith
-more-straight (suc (suc zero)) l h e = let z : _≡_ {A = ℕ} 0 1 = cc in omega arith
-more-straight (suc (suc (suc zero))) l h e = let z : _≡_ {A = ℕ} 0 1 = cc in omega arith
-more-straight (suc (suc (suc (suc zero)))) l h e = let z : _≡_ {A = ℕ} 0 1 = cc in omega arith
-more-straight (suc (suc (suc (suc (suc zero))))) l h e = let z : _≡_ {A = ℕ} 0 1 = cc in omega arith
-more-straight (suc (suc (suc (suc (suc (suc k)))))) l h e = omega arith
-
-more-quiet : (e : ℕ) (c : Memory) → Quiet (programOf more) e (startWorld ec20 c)
-unfolding checkOf
-more-quiet e c = λ n l y. absurd (more-straight _ l (due-inside ec20 more 6 200001 more-ok e c n) y)
+more-straight = refl
 
 pub more-stops : (e : ℕ) (c : Memory) → Not9 ec20 e c → StoppedAfter (plainScan more e c .answer) 200000
 unfolding checkOf scanOf
 more-stops e c h =
-    let s = scans-of ec20 more 6 200001 more-ok .exactly-w e 200001 c h (omega arith) (more-quiet e c) in
+    let s = scans-of ec20 more 6 200001 more-ok .exactly-w e 200001 c h (omega arith) (no-jump ec20 more 6 200001 more-ok e c more-straight) in
     without-budget more .needs-more e 200001 c (s .report) (s .answer) (omega (arith, s .steps))
