@@ -1,9 +1,10 @@
 /* Writes the programs that the scans are timed on, each by its name, into the folder that it is given. Most are a body of rungs in a loop, or in
    loops, that makes about 10,000,000 steps, the most that a program may. Those whose names end in a number show the growth: straight-N goes once
-   over its N records, steps-N makes about N steps, all by the same records but for the passes of FOR, and roots-N takes roots of N. */
+   over its N records, steps-N makes about N steps, all by the same records but for the passes of FOR, and roots-N takes roots of N. On timers,
+   which has those of all three bases, the scans are only compared. */
 #include "compose.h"
 
-enum { MOST_STEPS = 10000000, ROOT_STEPS = 1000000 };
+enum { MOST_STEPS = 10000000, ROOT_STEPS = 1000000, TIMER_STEPS = 100000 };
 
 /* The body stands at the start of the file: it is put into a loop, or in two, that make as many passes as come to at most so many steps. */
 static void looped(int steps) {
@@ -45,6 +46,18 @@ static void bit_rungs(int i) {
     put1(RST, M, 31 * i + 3);
     put(MPP);
     put2(TON, T, i, CONSTANT, 200 + i);
+}
+
+/* The first and the last timer of each base, with flow and without. */
+static void timers(void) {
+    static const int edges[] = {0, 209, 210, 251, 252, 255};
+    for (int i = 0; i < 6; i++) {
+        put1(LDI, M, i);
+        put2(TON, T, edges[i], CONSTANT, 100 + 900 * i);
+        put1(LD, T, edges[i]);
+        put1(OUT, M, i);
+    }
+    looped(TIMER_STEPS);
 }
 
 /* 16-bit words: moves, sums, a quotient, comparisons, counts: 15 records. */
@@ -171,7 +184,8 @@ int main(int arguments, char **argument) {
     static const struct {
         const char *name;
         void (*compose)(void);
-    } all[] = {{"bits", bits}, {"words", words}, {"pairs", pairs}, {"rootless", rootless}, {"groups", groups}, {"loops", loops}, {"deep", deep}};
+    } all[] = {{"bits", bits}, {"words", words}, {"pairs", pairs}, {"rootless", rootless}, {"groups", groups}, {"loops", loops}, {"deep", deep},
+               {"timers", timers}};
     static const int sizes[] = {100, 500, MOST}, numbers[] = {0, 100, 83000, INT32_MAX};
     if (arguments != 2) {
         fprintf(stderr, "usage: programs FOLDER\n");

@@ -1,4 +1,4 @@
-/* scan-driver PROGRAM.. [--alike PROGRAM..] [--growth PROGRAM..]
+/* scan-driver PROGRAM.. [--alike PROGRAM..] [--growth PROGRAM..] [--agree PROGRAM..]
 
    One line for each program: its name, the steps of a scan, the nanoseconds of a step, the ratio to the Rust reference, the ratio to C.
    The proved scan and the reference check the program first, at each call, and C does not: with millions of steps that does not count.
@@ -9,12 +9,12 @@
    After --growth, C checks the program at each call too, and the nanoseconds are of the whole call. Ahead of them stand, of C and of Ninhalto,
    those of the check alone, and those of a call with a budget of 0 ("ready"), which checks, decodes and makes no step.
 
-   Before that, all sides run with a budget of 0, of 1, of some steps between and of all, and must give the same answers and leave the same seven
-   tables. */
+   Before that, all sides run with a budget of 0, of 1, of some steps between and of all, with elapsed milliseconds and leftovers in their ranges and
+   past them, and must give the same answers and leave the same eight tables. After --agree they do that alone. */
 #include "driver.h"
 #include "scan.h"
 
-enum { ROUNDS = 9, GROWTH_ROUNDS = 21, ELAPSED = 1 };
+enum { ROUNDS = 9, GROWTH_ROUNDS = 21, ELAPSED = 100 };
 
 /* So many scans of the file, one after the other over the same memory. */
 typedef void scans(const uint8_t *f, size_t n, struct memory *m, uint32_t elapsed, uint32_t budget, size_t times, size_t told[7]);
@@ -34,43 +34,70 @@ static void c_checked_scans(const uint8_t *f, size_t n, struct memory *m, uint32
 static void proved_scans(const uint8_t *f, size_t n, struct memory *m, uint32_t elapsed, uint32_t budget, size_t times, size_t told[7]) {
     for (; times; times--)
         ninhalto_scan(f, n, m->x, sizeof m->x, m->y, sizeof m->y, m->m, sizeof m->m, m->sm, sizeof m->sm, m->t, sizeof m->t, m->d, 8000, m->tv,
-                      256, elapsed, budget, told);
+                      256, m->rest, sizeof m->rest, elapsed, budget, told);
 }
 
 static scans *const sides[3] = {c_scans, proved_scans, IF_REFERENCE(reference_scans)};
 static scans *const checked[3] = {c_checked_scans, proved_scans, IF_REFERENCE(reference_scans)};
 
-/* Bytes drawn as reference/FORMAT.md says. */
+/* Bytes drawn as reference/FORMAT.md says, the leftovers brought into their ranges. */
 static void draw(struct memory *m, uint32_t seed) {
     uint8_t *b = (uint8_t *)m;
     for (size_t i = 0; i < sizeof *m; i++) {
         seed = seed * 1664525 + 1013904223;
         b[i] = seed >> 24;
     }
+    m->rest[0] %= 10, m->rest[1] %= 100;
+}
+
+/* The memory before a scan: zeros, or drawn. */
+static struct memory before;
+
+static void begin(uint32_t seed) {
+    memset(&before, 0, sizeof before);
+    if (seed) draw(&before, seed);
 }
 
 /* All scans give the same answer and leave the same memory. Gives the steps. */
-static size_t agreed(const char *name, uint32_t seed, uint32_t budget) {
+static size_t agreed(const char *name, uint32_t elapsed, uint32_t budget) {
     static struct memory memory[3];
     size_t told[3][7];
-    memset(memory, 0, sizeof memory);
     for (int s = 0; s < SIDES; s++) {
-        if (seed) draw(&memory[s], seed);
-        sides[s](file, size, &memory[s], ELAPSED, budget, 1, told[s]);
+        memory[s] = before;
+        sides[s](file, size, &memory[s], elapsed, budget, 1, told[s]);
         if (memcmp(told[0], told[s], sizeof told[0]) || memcmp(&memory[0], &memory[s], sizeof memory[0])) {
-            fprintf(stderr, "seed %u, budget %u: ", seed, budget);
+            fprintf(stderr, "leftovers %d and %d, elapsed %u, budget %u: ", before.rest[0], before.rest[1], elapsed, budget);
             differ(name, s);
         }
     }
     return told[0][3];
 }
 
+/* Leftovers and elapsed in their ranges and past them. */
+static void times_agreed(const char *name) {
+    static const uint8_t rests[][2] = {{0, 0}, {9, 99}, {4, 56}, {10, 0}, {0, 100}, {255, 255}};
+    static const uint32_t times[] = {0, 1, 9, 10, 99, 100, 101, 9999, 10000, 10001, 65536, UINT32_MAX};
+    begin(1);
+    for (size_t r = 0; r < sizeof rests / sizeof *rests; r++) {
+        memcpy(before.rest, rests[r], sizeof before.rest);
+        for (size_t i = 0; i < sizeof times / sizeof *times; i++) {
+            agreed(name, times[i], 0);
+            agreed(name, times[i], 1001);
+        }
+    }
+}
+
 static size_t all_agreed(const char *name) {
     static const uint32_t budgets[] = {0, 1, 2, 17, 100, 1001, 65537};
-    for (uint32_t seed = 0; seed < 4; seed++)
-        for (size_t i = 0; i < sizeof budgets / sizeof *budgets; i++) agreed(name, seed, budgets[i]);
-    agreed(name, 0, UINT32_MAX);
-    return agreed(name, 1, UINT32_MAX);
+    times_agreed(name);
+    for (uint32_t seed = 0; seed < 4; seed++) {
+        begin(seed);
+        for (size_t i = 0; i < sizeof budgets / sizeof *budgets; i++) agreed(name, ELAPSED, budgets[i]);
+    }
+    begin(0);
+    agreed(name, ELAPSED, UINT32_MAX);
+    begin(1);
+    return agreed(name, ELAPSED, UINT32_MAX);
 }
 
 static double timed_scans(scans *f, uint32_t budget, long n) {
@@ -143,12 +170,18 @@ static void measure_growth(int files, char **path) {
     }
 }
 
+static void agree(int files, char **path) {
+    load_all(files, path);
+    for (int i = 0; i < files; i++) printf("%-14s  steps %8zu  all sides agree\n", subjects[i].name, subjects[i].steps);
+}
+
 /* What is measured of the programs after this word, and up to the next of its kind. */
 typedef void measured(int files, char **path);
 
 static measured *section(const char *word) {
     if (!strcmp(word, "--alike")) return measure_alike;
     if (!strcmp(word, "--growth")) return measure_growth;
+    if (!strcmp(word, "--agree")) return agree;
     return NULL;
 }
 

@@ -1,4 +1,5 @@
-/* The scan of document 01 in plain C: what the proved scan is measured against. The program has passed the check, so nothing is checked here.
+/* The scan of documents 01 and 02 in plain C: what the proved scan is measured against. The program has passed the check, so of it nothing is checked
+   here; leftovers and elapsed are.
    Each record is decoded once, before the run. It is written for speed, as one would for a machine with the lowest byte first: a group is one number
    of eight bytes where its table has them, the three flags are put at once, and a root is the processor's own. */
 #include "scan.h"
@@ -17,7 +18,7 @@ struct operand {
 
 struct instruction {
     uint8_t number;
-    uint16_t place; /* FOR: its NEXT. CJ: its label */
+    uint16_t place; /* FOR: its NEXT. CJ: its label. TON: its base */
     struct operand a, b, c;
 };
 
@@ -26,7 +27,7 @@ struct machine {
     int flow; /* absent counts as off */
     int fresh; /* the next LD starts a rung */
     uint8_t blocks, branches;
-    int elapsed;
+    int units[3]; /* of each base */
 };
 
 static int32_t i32_at(const uint8_t *p) { return p[0] | p[1] << 8 | p[2] << 16 | (int32_t)((uint32_t)p[3] << 24); }
@@ -158,11 +159,11 @@ static int pop(uint8_t *stack) {
     return on;
 }
 
-static void timer(struct machine *s, int k, int limit) {
+static void timer(struct machine *s, int k, int units, int limit) {
     struct memory *m = s->memory;
     int v = 0;
     if (s->flow) {
-        v = (m->tv[k] < 0 ? 0 : m->tv[k]) + s->elapsed;
+        v = (m->tv[k] < 0 ? 0 : m->tv[k]) + units;
         if (v > limit) v = limit;
     }
     m->tv[k] = (int16_t)v;
@@ -242,6 +243,22 @@ static int word(struct memory *m, const struct instruction *i) {
     return 0;
 }
 
+/* ---- the time */
+
+enum { LONGEST = 10000 };
+enum { HUNDREDS, TENS, ONES };
+
+static int base(int k) { return k < 210 ? HUNDREDS : k < 252 ? TENS : ONES; }
+
+static int in_range(const uint8_t rest[2], uint32_t elapsed) { return rest[0] < 10 && rest[1] < 100 && elapsed <= LONGEST; }
+
+/* The units that a timer of each base is given in this scan. Sets the leftovers. */
+static void tick(uint8_t rest[2], int elapsed, int units[3]) {
+    int tens = rest[0] + elapsed, hundreds = rest[1] + elapsed;
+    units[HUNDREDS] = hundreds / 100, units[TENS] = tens / 10, units[ONES] = elapsed;
+    rest[0] = (uint8_t)(tens % 10), rest[1] = (uint8_t)(hundreds % 100);
+}
+
 /* ---- the run */
 
 static void decode(const uint8_t *r, int count, struct instruction *code) {
@@ -252,6 +269,7 @@ static void decode(const uint8_t *r, int count, struct instruction *code) {
         if (r[0] == FOR) open[depth++] = k;
         if (r[0] == NEXT) code[open[--depth]].place = k;
         if (r[0] == LBL) labels[r[4]] = k;
+        if (r[0] == TON) code[k].place = base(code[k].a.value);
     }
     for (int k = 0; k < count; k++)
         if (code[k].number == CJ) code[k].place = labels[code[k].a.value];
@@ -262,8 +280,13 @@ void c_scan(const uint8_t *file, size_t size, struct memory *m, uint32_t elapsed
     int left[8], back[8], depth = 0, ended = 0, error = 0, at = 0;
     uint32_t pc = 0, steps = 0;
     int count = file[size - 6] | file[size - 5] << 8;
+    if (!in_range(m->rest, elapsed)) {
+        memcpy(told, (size_t[7]){9}, 7 * sizeof *told);
+        return;
+    }
     decode(file + size - 20 * count - 8, count, code);
-    struct machine s = {m, 0, 1, 0, 0, elapsed};
+    struct machine s = {m, 0, 1, 0, 0, {0}};
+    tick(m->rest, elapsed, s.units);
     put(m->sm, 0, 1);
     while (steps < budget && !ended) {
         const struct instruction *i = &code[pc];
@@ -335,7 +358,7 @@ void c_scan(const uint8_t *file, size_t size, struct memory *m, uint32_t elapsed
             load(&s, load16(m, i->a) < load16(m, i->b));
             break;
         case TON:
-            timer(&s, i->a.value, i->b.value);
+            timer(&s, i->a.value, s.units[i->place], i->b.value);
             s.fresh = 1;
             break;
         case FOR:

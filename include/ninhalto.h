@@ -13,8 +13,8 @@
    - Lent parts that are written overlap no other. Parts that are only read, as x and file or both texts, may be one.
    - It writes what is named as written, and nothing else. It does not allocate, keeps nothing between calls, has no global state, calls memcpy
      and memset and nothing else, and always ends. It may be called from any thread, over different lent parts at the same time.
-   - Stack of the x86-64 code, measured (robustness/stack.c), in bytes: the check 3,776, a scan 38,144, the map 8,608, the move 5,584, the exchange
-     56, the answer 296, the clashes 1,176, the longer of two texts 264. It is not proved. Only the check's walk over loops calls itself, for each
+   - Stack of the x86-64 code, measured (robustness/stack.c), in bytes: the check 12,320, a scan 62,128, the map 17,152, the move 14,128, the
+     exchange 56, the answer 296, the clashes 1,176, the longer of two texts 264. It is not proved. Only the check's walk over loops calls itself, for each
      loop in a loop, at most 8 deep; a file of the deepest such calls was measured.
 
    number: 0, or the number of a refusal. at: the record told, counted from 0; 0 where there is none.
@@ -28,7 +28,7 @@
      6  NEXT with no FOR open, a ninth open FOR, END not last; the last not END, or a FOR open there the first
      7  a label set twice, or a CJ whose label does not stand where it must                          the first
      8  more than 10,000,000 steps                                                                   0
-     9  a table of a wrong size, or elapsed above 32767                                              0
+     9  a table of a wrong size, a leftover out of its range, or elapsed above 10,000                0
     10  the block is empty or not inside D; of a list: over 64 declarations, or such a block         0
     11  the pool's start is above its end, or its end above 8000                                     0
     12  the block meets WORK                                                                         0
@@ -49,7 +49,8 @@
 extern "C" {
 #endif
 
-/* The sizes of the tables: of bits in bytes, eight bits to a byte, the lowest number in the lowest bit; of D and T in words. */
+/* The sizes of the tables: of bits in bytes, eight bits to a byte, the lowest number in the lowest bit; of D and T in words; of the leftovers in
+   bytes, one to a leftover. */
 enum {
     NINHALTO_X = 32,
     NINHALTO_Y = 32,
@@ -58,6 +59,7 @@ enum {
     NINHALTO_T = 32,
     NINHALTO_D = 8000,
     NINHALTO_TV = 256,
+    NINHALTO_REST = 2,
     NINHALTO_MAP = 1000
 };
 
@@ -97,17 +99,21 @@ enum {
    file is refused. */
 void ninhalto_check(const uint8_t *file, size_t file_size, size_t *number, size_t *at, size_t *records, size_t *steps);
 
-/* A scan of a file over the lent memory: elapsed units of 100 ms, 0 to 32767, and a budget of steps. Writes told and, unless refused, the
-   tables: they are as after exactly the steps told. x is only read. */
+/* A scan of a file over the lent memory: elapsed milliseconds since the scan before, 0 to 10,000, and a budget of steps. Writes told and, unless
+   refused, the tables: they are as after exactly the steps told. x is only read.
+   T0 to T209 count 100 ms, T210 to T251 count 10 ms, T252 to T255 count 1 ms. rest holds the leftovers, the milliseconds that are no whole unit yet:
+   first that of the 10 ms timers, 0 to 9, then that of the 100 ms timers, 0 to 99. A host begins with 0 and 0, and lends at each scan what the one
+   before left. The whole units of leftover and elapsed together go to every timer of that base, at each TON that is executed with flow; what is left
+   is set before record 0, with any budget, and with no timer running too. */
 void ninhalto_scan(const uint8_t *file, size_t file_size, const uint8_t *x, size_t x_size, uint8_t *y, size_t y_size, uint8_t *m, size_t m_size,
-                   uint8_t *sm, size_t sm_size, uint8_t *t, size_t t_size, int16_t *d, size_t d_size, int16_t *tv, size_t tv_size,
-                   uint32_t elapsed, uint32_t budget, size_t told[NINHALTO_TOLD]);
+                   uint8_t *sm, size_t sm_size, uint8_t *t, size_t t_size, int16_t *d, size_t d_size, int16_t *tv, size_t tv_size, uint8_t *rest,
+                   size_t rest_size, uint32_t elapsed, uint32_t budget, size_t told[NINHALTO_TOLD]);
 
 /* The same with a budget of 200,000 steps. It never tells a watchdog of a file of which ninhalto_check tells 200,000 steps or fewer. A host that wants
    more names its budget: ninhalto_scan. */
 void ninhalto_scan_unbudgeted(const uint8_t *file, size_t file_size, const uint8_t *x, size_t x_size, uint8_t *y, size_t y_size, uint8_t *m,
                               size_t m_size, uint8_t *sm, size_t sm_size, uint8_t *t, size_t t_size, int16_t *d, size_t d_size, int16_t *tv,
-                              size_t tv_size, uint32_t elapsed, size_t told[NINHALTO_TOLD]);
+                              size_t tv_size, uint8_t *rest, size_t rest_size, uint32_t elapsed, size_t told[NINHALTO_TOLD]);
 
 /* The use map of a file. Writes number and at, and all 1,000 bytes of each map, one bit for each D word, packed as the tables of bits are: set in
    read exactly if some source holds the word, in written exactly if some target does. Both are all 0 where the file is refused. */

@@ -6,6 +6,7 @@
 
 static uint8_t x[NINHALTO_X], y[NINHALTO_Y], m[NINHALTO_M], sm[NINHALTO_SM], t[NINHALTO_T];
 static int16_t d[NINHALTO_D], tv[NINHALTO_TV];
+static uint8_t rest[NINHALTO_REST];
 
 static double now(void) {
     struct timespec at;
@@ -19,8 +20,8 @@ static void measure(const char *name, const uint8_t *program, size_t size) {
     for (int round = 0; round < 5; round++) {
         for (int i = 0; i < NINHALTO_D; i++) d[i] = (int16_t)(i * 31 + 7);
         double from = now();
-        ninhalto_scan(program, size, x, sizeof x, y, sizeof y, m, sizeof m, sm, sizeof sm, t, sizeof t, d, NINHALTO_D, tv, NINHALTO_TV, 1, 4294967295u,
-                      told);
+        ninhalto_scan(program, size, x, sizeof x, y, sizeof y, m, sizeof m, sm, sizeof sm, t, sizeof t, d, NINHALTO_D, tv, NINHALTO_TV, rest, sizeof rest,
+                      100, 4294967295u, told);
         double took = now() - from;
         if (took > slowest) slowest = took;
     }

@@ -13,6 +13,7 @@ static uint8_t file[LONGEST], copy[LONGEST];
 static size_t size;
 static uint8_t x[NINHALTO_X], y[NINHALTO_Y], m[NINHALTO_M], sm[NINHALTO_SM], t[NINHALTO_T], read_map[NINHALTO_MAP], written_map[NINHALTO_MAP];
 static int16_t d[NINHALTO_D], tv[NINHALTO_TV];
+static uint8_t rest[NINHALTO_REST];
 static size_t told[NINHALTO_TOLD], number, at, other, last;
 
 static void nothing(void) {}
@@ -22,13 +23,13 @@ static void check(void) {
 }
 
 static void scan(void) {
-    ninhalto_scan(file, size, x, NINHALTO_X, y, NINHALTO_Y, m, NINHALTO_M, sm, NINHALTO_SM, t, NINHALTO_T, d, NINHALTO_D, tv, NINHALTO_TV, 1, 100000,
-                  told);
+    ninhalto_scan(file, size, x, NINHALTO_X, y, NINHALTO_Y, m, NINHALTO_M, sm, NINHALTO_SM, t, NINHALTO_T, d, NINHALTO_D, tv, NINHALTO_TV, rest,
+                  NINHALTO_REST, 123, 100000, told);
 }
 
 static void plain_scan(void) {
-    ninhalto_scan_unbudgeted(file, size, x, NINHALTO_X, y, NINHALTO_Y, m, NINHALTO_M, sm, NINHALTO_SM, t, NINHALTO_T, d, NINHALTO_D, tv, NINHALTO_TV, 1,
-                             told);
+    ninhalto_scan_unbudgeted(file, size, x, NINHALTO_X, y, NINHALTO_Y, m, NINHALTO_M, sm, NINHALTO_SM, t, NINHALTO_T, d, NINHALTO_D, tv, NINHALTO_TV,
+                             rest, NINHALTO_REST, 123, told);
 }
 
 static void map(void) {

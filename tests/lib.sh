@@ -8,7 +8,7 @@ room=$(mktemp -d) || exit 2
 trap 'chmod -R u+rwx "$room"; rm -rf "$room"' EXIT
 ninhalto=$top/ninhalto
 passed=0 failed=0
-# How many lines a call that is answered says on standard error.
+# How many lines a call says on standard error beside the reason, where it is not answered.
 spoken=0
 
 # ---- program files and memory files, byte by byte
@@ -104,7 +104,7 @@ judged() {
     [ "$(cat "$room/said-out")" = "$output" ] || why="$why; printed '$(cat "$room/said-out")' and not '$output'"
     [ "$status" != 1 ] || reason "$output"
     lines=$(wc -l <"$room/said-err")
-    [ "$lines" -eq $((status > 0 ? 1 : spoken)) ] || why="$why; $lines lines on standard error"
+    [ "$lines" -eq $(((status > 0) + spoken)) ] || why="$why; $lines lines on standard error"
     counted "$@"
 }
 

@@ -9,6 +9,7 @@
 struct memory {
     uint8_t x[NINHALTO_X], y[NINHALTO_Y], m[NINHALTO_M], sm[NINHALTO_SM], t[NINHALTO_T];
     int16_t d[NINHALTO_D], tv[NINHALTO_TV];
+    uint8_t rest[NINHALTO_REST];
 };
 
 enum { CONSTANT = 1, Y = 3, SM = 5, D = 7 };
@@ -58,9 +59,10 @@ static size_t check(const uint8_t *file, size_t size) {
     return number;
 }
 
+/* 100 ms have gone by; the budget is 1000 steps. */
 static void scan(const uint8_t *file, struct memory *c, size_t told[NINHALTO_TOLD]) {
     ninhalto_scan(file, SIZE, c->x, NINHALTO_X, c->y, NINHALTO_Y, c->m, NINHALTO_M, c->sm, NINHALTO_SM, c->t, NINHALTO_T, c->d, NINHALTO_D, c->tv,
-                  NINHALTO_TV, 1, 1000, told);
+                  NINHALTO_TV, c->rest, NINHALTO_REST, 100, 1000, told);
     printf("refusal %zu at %zu, kind %zu, steps %zu, stopped at %zu, error %zu at %zu\n", told[0], told[1], told[2], told[3], told[4], told[5], told[6]);
 }
 

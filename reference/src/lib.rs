@@ -6,6 +6,7 @@ pub mod arith;
 pub mod cases;
 pub mod check;
 pub mod cli;
+pub mod clock;
 pub mod compose;
 pub mod devices;
 pub mod exchange;

@@ -1,10 +1,12 @@
-//! The lent memory: packed bit tables, D words and T values, and its image as one file.
+//! The lent memory: packed bit tables, D words, T values, leftovers; its image as one file.
 
 use crate::devices;
 
-/// Bytes of the image: X 32, Y 32, M 250, SM 32, T contacts 32, then the words.
+/// Bytes of the image: X 32, Y 32, M 250, SM 32, T contacts 32, then the words, the leftovers.
 pub const BIT_BYTES: usize = 32 + 32 + 250 + 32 + 32;
-pub const IMAGE: usize = BIT_BYTES + 2 * 8000 + 2 * 256;
+/// Where the leftovers stand in it.
+pub const REST: usize = BIT_BYTES + 2 * 8000 + 2 * 256;
+pub const IMAGE: usize = REST + 2;
 
 /// Tables as they were lent: any of them may be of a wrong size (refusal 9).
 #[derive(Clone, PartialEq, Eq, Debug)]
@@ -16,6 +18,8 @@ pub struct Memory {
     pub contacts: Vec<u8>,
     pub d: Vec<i16>,
     pub t: Vec<i16>,
+    /// The leftovers: milliseconds of the 10 ms timers, then of the 100 ms timers.
+    pub rest: Vec<u8>,
 }
 
 pub fn bit(table: &[u8], number: u32) -> bool {
@@ -82,12 +86,14 @@ impl Memory {
             contacts: vec![0; 32],
             d: vec![0; devices::D_WORDS as usize],
             t: vec![0; devices::T_COUNT as usize],
+            rest: vec![0; 2],
         }
     }
 
     pub fn sizes_right(&self) -> bool {
-        let bits = [&self.x, &self.y, &self.m, &self.sm, &self.contacts];
-        bits.map(Vec::len) == [32, 32, 250, 32, 32] && self.d.len() == 8000 && self.t.len() == 256
+        let bytes = [&self.x, &self.y, &self.m, &self.sm, &self.contacts, &self.rest];
+        let words = [&self.d, &self.t];
+        bytes.map(Vec::len) == [32, 32, 250, 32, 32, 2] && words.map(Vec::len) == [8000, 256]
     }
 
     /// None if the image is not exactly as long as the tables together.
@@ -103,7 +109,8 @@ impl Memory {
             sm: part(314, 32),
             contacts: part(346, 32),
             d: words(&image[378..16378]),
-            t: words(&image[16378..]),
+            t: words(&image[16378..REST]),
+            rest: image[REST..].to_vec(),
         })
     }
 
@@ -115,6 +122,7 @@ impl Memory {
         for word in self.d.iter().chain(&self.t) {
             image.extend_from_slice(&word.to_le_bytes());
         }
+        image.extend_from_slice(&self.rest);
         image
     }
 
@@ -174,7 +182,10 @@ mod tests {
         let memory = Memory::from_image(&image).unwrap();
         assert!(memory.sizes_right());
         assert_eq!(memory.image(), image);
-        assert_eq!(IMAGE, 16890);
-        assert!(Memory::from_image(&image[1..]).is_none());
+        assert_eq!((REST, IMAGE), (16890, 16892));
+        assert_eq!(memory.rest, image[16890..]);
+        for size in [0, 16889, 16890, 16891] {
+            assert!(Memory::from_image(&image[..size]).is_none());
+        }
     }
 }

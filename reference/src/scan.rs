@@ -1,6 +1,7 @@
 //! The scan: refusal 9 after 1 to 8, then record by record to END or to the watchdog.
 
 use crate::check::{check, Accepted};
+use crate::clock::{self, Units, LONGEST_ELAPSED};
 use crate::devices;
 use crate::file::Record;
 use crate::flow::Flow;
@@ -9,7 +10,6 @@ use crate::memory::{bit, put_bit, Memory};
 use crate::refusal::Refusal;
 use crate::{labels, structure, words};
 
-pub const LONGEST_ELAPSED: u32 = 32767;
 /// Of the entry that takes no budget: document 02, (vi).
 pub const DEFAULT_BUDGET: u32 = 200_000;
 
@@ -35,7 +35,7 @@ struct Run<'a> {
     records: &'a [Record],
     partners: Vec<usize>,
     memory: &'a mut Memory,
-    elapsed: u32,
+    units: Units,
     flow: Flow,
     loops: Vec<Loop>,
     error: Option<(u32, usize)>,
@@ -66,7 +66,8 @@ impl Run<'_> {
         let number = record.operands[0].value;
         let preset = i64::from(record.operands[1].signed());
         let old = i64::from(self.memory.t[number as usize]).max(0);
-        let value = if self.flow.on() { preset.min(old + i64::from(self.elapsed)) } else { 0 };
+        let units = i64::from(self.units.of(number));
+        let value = if self.flow.on() { preset.min(old + units) } else { 0 };
         // The constant is at least 1, so without flow the contact goes off.
         self.memory.t[number as usize] = value as i16;
         put_bit(&mut self.memory.contacts, number, value == preset);
@@ -158,11 +159,12 @@ pub type Watch<'w> = &'w mut dyn FnMut(usize, bool);
 
 fn run(program: &Accepted, memory: &mut Memory, elapsed: u32, budget: u32, watch: Watch) -> Answer {
     put_bit(&mut memory.sm, devices::SM_RUNNING, true);
+    let units = Units::of_scan(&mut memory.rest, elapsed);
     let mut run = Run {
         records: &program.records,
         partners: structure::partners(&program.records),
         memory,
-        elapsed,
+        units,
         flow: Flow::default(),
         loops: Vec::new(),
         error: None,
@@ -182,6 +184,7 @@ fn run(program: &Accepted, memory: &mut Memory, elapsed: u32, budget: u32, watch
     Answer { ended, steps, record: at as u32, error, error_record: error_record as u32 }
 }
 
+/// `elapsed` is in milliseconds.
 pub fn scan_watched(
     bytes: &[u8],
     memory: &mut Memory,
@@ -190,7 +193,8 @@ pub fn scan_watched(
     watch: Watch,
 ) -> Result<Answer, Refusal> {
     let program = check(bytes)?;
-    if !memory.sizes_right() || elapsed > LONGEST_ELAPSED {
+    let fits = memory.sizes_right() && clock::sound(&memory.rest);
+    if !fits || elapsed > LONGEST_ELAPSED {
         return Err(Refusal::new(9, 0));
     }
     Ok(run(&program, memory, elapsed, budget, watch))

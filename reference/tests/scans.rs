@@ -7,7 +7,7 @@ use ninhalto_reference::memory::{bit, put_bit, Memory};
 use ninhalto_reference::scan::{scan, scan_default, Answer};
 
 fn run(records: &[Record], memory: &mut Memory) -> Answer {
-    scan_default(&file(records), memory, 1).expect("an accepted program")
+    scan_default(&file(records), memory, 100).expect("an accepted program")
 }
 
 #[test]
@@ -101,12 +101,12 @@ fn timer_over_scans() {
     put_bit(&mut memory.m, 0, true);
     let mut values = Vec::new();
     for _ in 0..3 {
-        scan(&file(&records), &mut memory, 10, 100).unwrap();
+        scan(&file(&records), &mut memory, 1_000, 100).unwrap();
         values.push((memory.t[7], bit(&memory.contacts, 7)));
     }
     assert_eq!(values, [(10, false), (20, false), (25, true)]);
     put_bit(&mut memory.m, 0, false);
-    scan(&file(&records), &mut memory, 10, 100).unwrap();
+    scan(&file(&records), &mut memory, 1_000, 100).unwrap();
     assert_eq!((memory.t[7], bit(&memory.contacts, 7)), (0, false));
 }
 

@@ -40,18 +40,31 @@ fn file(rng: &mut Rng, made: &Made, turn: usize) -> Vec<u8> {
     }
 }
 
-/// One memory in eight has a table of a wrong size.
+/// One memory in sixteen has a table of a wrong size, one in sixteen leftovers that are out of their ranges, and one in
+/// sixteen leftovers that are too few or too many.
 fn memory(rng: &mut Rng, made: &Made) -> Memory {
     let spec = memories::memory(rng, &made.records);
     let mut memory = spec.lend(&spec.image(&[]));
-    match rng.below(32) {
+    match rng.below(64) {
         0 => memory.d.truncate(rng.below(8000) as usize),
         1 => memory.m.push(0),
         2 => memory.t.clear(),
         3 => drop(memory.y.pop()),
+        4..=7 => memory.rest = memories::bad_leftovers(rng).to_vec(),
+        8 | 9 => memory.rest.truncate(rng.below(2) as usize),
+        10 | 11 => memory.rest.push(rng.byte()),
         _ => (),
     }
     memory
+}
+
+/// One time in sixteen is too long, and one is about the longest.
+fn elapsed(rng: &mut Rng) -> u32 {
+    match rng.below(16) {
+        0 => memories::too_long(rng),
+        1 => rng.between(9_990, 10_010),
+        _ => memories::elapsed(rng),
+    }
 }
 
 /// Station, reply buffer and frame. One station in sixteen is none, and so many buffers are too short.
@@ -68,8 +81,7 @@ pub fn draw(rng: &mut Rng, turn: usize) -> Drawn {
     let file = file(rng, &made, turn);
     let memory = memory(rng, &made);
     let (block, pool) = rng.pick(&[likely, likely, into_gap, cutting, no_place, wrong])(rng, &made);
-    let elapsed =
-        if rng.once_in(16) { rng.pick(&[32768, u32::MAX]) } else { memories::elapsed(rng) };
+    let elapsed = elapsed(rng);
     let budget = rng.pick(&[0, 1, 5, 30, 200, 30_000, u32::MAX]);
     let near = block.start.wrapping_add(rng.below(20));
     let anywhere = rng.below(8100);

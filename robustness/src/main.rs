@@ -11,11 +11,13 @@ use ninhalto_reference::memory::Memory;
 use ninhalto_reference::modbus;
 use ninhalto_reference::refusal::Refusal;
 use ninhalto_reference::scan::Answer;
-use ninhalto_reference::{check, exchange, mover, scan, usemap};
+use ninhalto_reference::{check, clock, exchange, mover, scan, usemap};
 
-/// How often each number was told, 0 for no refusal: by check, scan, move, exchange, answer. Last, of the scan without a
-/// budget, how often it was refused (0), ended (1) and was stopped (2).
-type Tally = [[u64; 17]; 6];
+/// How often each number was told, 0 for no refusal: by check, scan, move, exchange, answer. Then, of the scan without a
+/// budget, how often it was refused (0), ended (1) and was stopped (2). Last, of the scans that were refused by 9, how often
+/// for a size (0), a leftover (1), the time alone (2); and of those that were not refused, how often they left no leftover (3),
+/// one (4), two (5).
+type Tally = [[u64; 17]; 7];
 
 fn pair(refusal: Refusal) -> [usize; 2] {
     [refusal.number as usize, refusal.record as usize]
@@ -45,6 +47,21 @@ fn seven(answer: Result<Answer, Refusal>) -> [usize; 7] {
             ]
         }
         Err(refusal) => [pair(refusal)[0], pair(refusal)[1], 0, 0, 0, 0, 0],
+    }
+}
+
+/// What was wrong of a scan that was refused by 9, or how many leftovers are left by one that was not refused.
+fn timed(drawn: &Drawn, number: usize) -> Option<usize> {
+    let rest = &drawn.memory.rest;
+    match number {
+        9 if !drawn.memory.sizes_right() => Some(0),
+        9 if !clock::sound(rest) => Some(1),
+        9 => Some(2),
+        0 => {
+            let left = |old: u8, base: u32| (u32::from(old) + drawn.elapsed) % base > 0;
+            Some(3 + usize::from(left(rest[0], 10)) + usize::from(left(rest[1], 100)))
+        }
+        _ => None,
     }
 }
 
@@ -122,6 +139,7 @@ fn turn(seed: u64, turn: u64, tally: &mut Tally) {
     tally[3][exchanged(&drawn)] += 1;
     tally[4][answered(&drawn)] += 1;
     tally[5][plain[2]] += 1;
+    timed(&drawn, told[0]).into_iter().for_each(|which| tally[6][which] += 1);
 }
 
 fn main() {
@@ -130,7 +148,7 @@ fn main() {
         eprintln!("robustness SEED COUNT");
         std::process::exit(2);
     };
-    let mut tally: Tally = [[0; 17]; 6];
+    let mut tally: Tally = [[0; 17]; 7];
     for i in 0..count {
         if std::panic::catch_unwind(std::panic::AssertUnwindSafe(|| turn(seed, i, &mut tally)))
             .is_err()
@@ -139,7 +157,7 @@ fn main() {
             std::process::exit(1);
         }
     }
-    let names = ["check", "scan", "move", "exchange", "answer", "no budget"];
+    let names = ["check", "scan", "move", "exchange", "answer", "no budget", "time"];
     for (name, row) in names.iter().zip(tally) {
         let told: Vec<String> = row
             .iter()

@@ -30,6 +30,8 @@ extern "C" {
         d_size: usize,
         tv: *mut i16,
         tv_size: usize,
+        rest: *mut u8,
+        rest_size: usize,
         elapsed: u32,
         budget: u32,
         told: *mut usize,
@@ -51,6 +53,8 @@ extern "C" {
         d_size: usize,
         tv: *mut i16,
         tv_size: usize,
+        rest: *mut u8,
+        rest_size: usize,
         elapsed: u32,
         told: *mut usize,
     );
@@ -118,8 +122,8 @@ pub fn check(file: &[u8]) -> [usize; 4] {
 /// The seven numbers; without a budget the entry that takes none.
 pub fn scan(file: &[u8], c: &mut Memory, elapsed: u32, budget: Option<u32>) -> [usize; 7] {
     let mut f = Lent::new(file, 0xC3);
-    let [mut x, mut y, mut m, mut sm, mut t] =
-        [&c.x, &c.y, &c.m, &c.sm, &c.contacts].map(|table| Lent::new(table, 0xC3));
+    let [mut x, mut y, mut m, mut sm, mut t, mut rest] =
+        [&c.x, &c.y, &c.m, &c.sm, &c.contacts, &c.rest].map(|table| Lent::new(table, 0xC3));
     let [mut d, mut tv] = [&c.d, &c.t].map(|table| Lent::new(table, 0x3C3C));
     let mut told = Lent::new(&[UNWRITTEN; 7], 77);
     unsafe {
@@ -141,6 +145,8 @@ pub fn scan(file: &[u8], c: &mut Memory, elapsed: u32, budget: Option<u32>) -> [
                 d.len(),
                 tv.lend(),
                 tv.len(),
+                rest.lend(),
+                rest.len(),
                 elapsed,
                 budget,
                 told.lend(),
@@ -162,6 +168,8 @@ pub fn scan(file: &[u8], c: &mut Memory, elapsed: u32, budget: Option<u32>) -> [
                 d.len(),
                 tv.lend(),
                 tv.len(),
+                rest.lend(),
+                rest.len(),
                 elapsed,
                 told.lend(),
             ),
@@ -176,6 +184,7 @@ pub fn scan(file: &[u8], c: &mut Memory, elapsed: u32, budget: Option<u32>) -> [
         contacts: held(&t),
         d: held(&d),
         t: held(&tv),
+        rest: held(&rest),
     };
     held(&told).try_into().unwrap()
 }

@@ -93,7 +93,7 @@ fn tell_ran(
     call: &[u8],
     how: usize,
     r: Report,
-    image: &[u8; 16890],
+    image: &[u8; 16892],
     out: i32,
     err: i32,
 ) -> Outcome {
@@ -104,7 +104,7 @@ fn tell_ran(
 }
 
 // Where the call named no budget, what can be done about the watchdog is said after the answer.
-fn tell_stopped(call: &[u8], r: Report, image: &[u8; 16890], out: i32, err: i32) -> Outcome {
+fn tell_stopped(call: &[u8], r: Report, image: &[u8; 16892], out: i32, err: i32) -> Outcome {
     let o = tell_ran(call, texts::WATCHDOG, r, image, out, err);
     if (o.status == 0) & (text::count(call) != 5) {
         texts::say(err, texts::NAME_A_BUDGET, r.steps, 0, 0, 0);
@@ -112,14 +112,24 @@ fn tell_stopped(call: &[u8], r: Report, image: &[u8; 16890], out: i32, err: i32)
     o
 }
 
-// 1 to 8 are told of the program file, word 1, and 9 of the memory file, word 2.
-pub fn tell(call: &[u8], f: &[u8], s: Scanned, image: &[u8; 16890], out: i32, err: i32) -> Outcome {
+// 1 to 8 are told of the program file, word 1, and 9 of the memory file, word 2, which has so many bytes.
+pub fn tell(
+    call: &[u8],
+    f: &[u8],
+    s: Scanned,
+    image: &[u8; 16892],
+    size: usize,
+    out: i32,
+    err: i32,
+) -> Outcome {
     match s {
         Scanned::Ended(r) => tell_ran(call, texts::ENDED, r, image, out, err),
         Scanned::Watchdog(r) => tell_stopped(call, r, image, out, err),
         Scanned::Refused { number, record } => {
             let word = text::word(call, 1 + number / 9);
-            report::refused(word, f, number, record, out, err)
+            let o = report::refused(word, f, number, record, out, err);
+            report::of_before(number, size, err);
+            o
         }
     }
 }

@@ -22,10 +22,13 @@ fn answer(to: i32, a: Answer) -> i32 {
     texts::say(to, told, a.steps, a.stop, a.error, a.at)
 }
 
-// The entry of the memory at a byte of its file: a D word, a T value, or a table of bits. Nothing past its last byte.
+// The entry of the memory at a byte of its file: the leftovers, a T value, a D word, or a table of bits. Nothing past its last byte.
 fn memory(to: i32, byte: usize) -> i32 {
-    if byte >= 16890 {
+    if byte >= 16892 {
         return to;
+    }
+    if byte >= 16890 {
+        return texts::say(to, texts::MEMORY + 7, byte, 0, 0, 0);
     }
     if byte >= 16378 {
         return texts::say(to, texts::MEMORY + 6, (byte - 16378) / 2, byte, 0, 0);

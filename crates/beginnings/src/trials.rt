@@ -96,12 +96,30 @@ fn stopped(status: usize) -> Begun
     }
 }
 
-// A memory file of another size is refused by 9, which is told where none of 1 to 8 holds, before 10 to 14. sized: whether it has the size of one.
+// A memory file by its bytes: whether a scan would take it, and how many there are.
+pub struct Lent {
+    pub fits: bool,
+    pub size: usize,
+}
+
+// At the start of the buffer: of the right size, with both leftovers in their ranges.
+fn judged(memory: &[u8], size: usize) -> Lent {
+    if memory.len() < 16892 {
+        return Lent { fits: false, size };
+    }
+    let fits = leftovers::fit(&memory[16890..16892]);
+    Lent {
+        fits: (size == 16892) & fits,
+        size,
+    }
+}
+
+// A memory file that no scan would take is refused by 9, which is told where none of 1 to 8 holds, before 10 to 14.
 fn refuse(
     call: &[u8],
     old: &[u8],
     memory_word: usize,
-    sized: bool,
+    memory: Lent,
     number: usize,
     record: usize,
     out: i32,
@@ -109,11 +127,12 @@ fn refuse(
 ) -> Begun
     ensures { λ r. ⌜ (r .status ≡ 0 → ⊥) ⌝ }
 {
-    if sized | (number < 9) {
+    if memory.fits | (number < 9) {
         let o = report::refused(text::word(call, 1), old, number, record, out, err);
         return stopped(o.status);
     }
     let o = report::refused(text::word(call, memory_word), old, 9, 0, out, err);
+    report::of_before(9, memory.size, err);
     stopped(o.status)
 }
 
@@ -132,7 +151,7 @@ fn move_copy(
     call: &[u8],
     old: &[u8],
     new: &mut [u8],
-    sized: bool,
+    memory: Lent,
     t: Tried,
     out: i32,
     err: i32,
@@ -142,10 +161,10 @@ fn move_copy(
 {
     match mover::move_block(new, t.start, t.length, t.pool_start, t.pool_end) {
         Moved::Refused { number, record } => {
-            refuse(call, old, t.memory_word, sized, number, record, out, err)
+            refuse(call, old, t.memory_word, memory, number, record, out, err)
         }
         Moved::To { place } => {
-            if sized {
+            if memory.fits {
                 let changed = changes::changed(old, new);
                 let to = shown::moved(out, t.start, t.length, place, changed);
                 let n = old.len();
@@ -160,7 +179,7 @@ fn move_copy(
                     },
                 }
             } else {
-                refuse(call, old, t.memory_word, sized, 9, 0, out, err)
+                refuse(call, old, t.memory_word, memory, 9, 0, out, err)
             }
         }
     }
@@ -171,7 +190,7 @@ fn copied(
     call: &[u8],
     old: &[u8],
     new: &mut [u8],
-    sized: bool,
+    memory: Lent,
     t: Tried,
     out: i32,
     err: i32,
@@ -183,11 +202,19 @@ fn copied(
         return stopped(2);
     }
     bytes::copy(old, new);
-    move_copy(call, old, &mut new[0..n], sized, t, out, err)
+    move_copy(call, old, &mut new[0..n], memory, t, out, err)
 }
 
 // The story ahead of it, where it is to be told.
-fn told(call: &[u8], old: &[u8], new: &mut [u8], sized: bool, t: Tried, out: i32, err: i32) -> Begun
+fn told(
+    call: &[u8],
+    old: &[u8],
+    new: &mut [u8],
+    memory: Lent,
+    t: Tried,
+    out: i32,
+    err: i32,
+) -> Begun
     ensures { λ r. ⌜ (r .status ≡ 0 → MovedTo (now (old .entry)) (block (r .way .start) (r .way .length)) (r .way .place) (take (r .n) (now (new .exit))) × (r .n ≡ length (now (old .entry)))) ⌝ }
 {
     if t.told {
@@ -195,9 +222,9 @@ fn told(call: &[u8], old: &[u8], new: &mut [u8], sized: bool, t: Tried, out: i32
         if b.status != 0 {
             return stopped(b.status);
         }
-        return copied(call, old, new, sized, t, b.to, err);
+        return copied(call, old, new, memory, t, b.to, err);
     }
-    copied(call, old, new, sized, t, out, err)
+    copied(call, old, new, memory, t, out, err)
 }
 
 // The old program is the first n bytes of its buffer.
@@ -206,7 +233,7 @@ fn part(
     old: &[u8],
     n: usize,
     new: &mut [u8],
-    sized: bool,
+    memory: Lent,
     t: Tried,
     out: i32,
     err: i32,
@@ -216,7 +243,7 @@ fn part(
     if n > old.len() {
         return stopped(2);
     }
-    told(call, &old[0..n], new, sized, t, out, err)
+    told(call, &old[0..n], new, memory, t, out, err)
 }
 
 // Afterwards the old program is at the start of its buffer, the new one of its own, and the memory file of its own. Where the scans follow, the move was
@@ -239,5 +266,6 @@ pub fn begin(
     if !s.whole {
         return stopped(2);
     }
-    part(call, old, s.program, new, s.memory == 16890, t, out, err)
+    let m = judged(memory, s.memory);
+    part(call, old, s.program, new, m, t, out, err)
 }

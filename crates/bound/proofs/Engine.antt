@@ -9,6 +9,7 @@ use borrow.Author.Tests.{lt-ltb}
 use Rattle.ec20.specs.declared.Instr.{Instr}
 use Rattle.ec20.specs.declared.Instr.the-variants.{Nop, Contact, Compare, Join, Branch, Coil, Timer, For, Next, Jump, Label, End, Word}
 use Rattle.ec20.specs.Basics.{pick}
+use Rattle.ec20.specs.declared.Units.{Units}
 use Rattle.ec20.specs.Code.{Program}
 use Rattle.ec20.specs.Control.{Controls, controlOf, controlsOf, firstLabel}
 use Rattle.ec20.specs.Flow.{isOn, gone}
@@ -73,7 +74,7 @@ module _ (p : Program) where
       (λ _. refl)
 
   -- each instruction, by what it is to loops and jumps
-  exec-same : (e : ℕ) (w : World) (i : Instr) → Eights w → w .st .depth ≤ 8 → Due code (p .count) (w .st .pc) (w .st .depth) (controlOf i)
+  exec-same : (e : Units) (w : World) (i : Instr) → Eights w → w .st .depth ≤ 8 → Due code (p .count) (w .st .pc) (w .st .depth) (controlOf i)
       → control (execOf p e i w) ≡ doneOf code (p .count) (isOn (w .st)) (control w) (controlOf i)
   unfolding execOf doneOf controlOf
   exec-same e w Nop x r u = refl
@@ -90,7 +91,7 @@ module _ (p : Program) where
   exec-same e w End x r u = refl
   exec-same e w (Word n a b t) x r u = on-same w _ (word-on n a b t w)
 
-  exec-eights : (e : ℕ) (w : World) (i : Instr) → Eights w → Eights (execOf p e i w)
+  exec-eights : (e : Units) (w : World) (i : Instr) → Eights w → Eights (execOf p e i w)
   unfolding execOf forOf closeOf
   exec-eights e w Nop x = x
   exec-eights e w (Contact n o) x = x
@@ -110,11 +111,11 @@ module _ (p : Program) where
   exec-eights e w (Word n a b t) x = on-eights w _ (word-on n a b t w) x
 
   -- THE STEP: seen as loops and jumps, a step where what is due is safe is a step of the small machine, with the flow that there is
-  pub step-same : (e : ℕ) (w : World) → Safe p w → control (stepOf p e w) ≡ moveOn code (p .count) (isOn (w .st)) (control w)
+  pub step-same : (e : Units) (w : World) → Safe p w → control (stepOf p e w) ≡ moveOn code (p .count) (isOn (w .st)) (control w)
   unfolding stepOf moveOn
   step-same e w s =
       rw (lt-ltb (w .st .pc) (p .count) (s .inside)) (exec-same e w (p .code (w .st .pc)) (s .passes, s .places) (s .room) (s .due))
 
-  pub step-eights : (e : ℕ) (w : World) → Eights w → Eights (stepOf p e w)
+  pub step-eights : (e : Units) (w : World) → Eights w → Eights (stepOf p e w)
   unfolding stepOf
   step-eights e w x = exec-eights e w (p .code (w .st .pc)) x

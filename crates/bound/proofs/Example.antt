@@ -5,6 +5,7 @@ use mathlib.Core.List.{List, [], _∷_}
 use mathlib.Core.Path.{_≡_, refl}
 use native.Mathlib.Omega.{arith}
 use lib.ListN.{replicate}
+use Rattle.ec20.specs.declared.Units.{Units}
 use Rattle.ec20.specs.declared.Verdict.the-variants.{Accepted}
 use Rattle.ec20.specs.declared.Control.the-variants.{Jumps}
 use Rattle.ec20.specs.Basics.{some-below}
@@ -14,9 +15,10 @@ use Rattle.ec20.specs.Code.{programOf}
 use Rattle.ec20.specs.Control.{controlsOf}
 use Rattle.ec20.specs.Labels.{labelFault, Stands}
 use Rattle.ec20.specs.Memory.{Memory, memory}
+use Rattle.ec20.specs.Plant.{unitsIn}
 use Rattle.ec20.specs.Scan.{runOf, startWorld, fitting, scanOf}
 use Rattle.ec20.proofs.Computing.{computing}
-use Rattle.ec20.proofs.Files.{X, Y, M, r0, r1, LD, FOR, NEXT, CJ, LBL, file, t9, blank}
+use Rattle.ec20.proofs.Files.{X, Y, M, r0, r1, LD, FOR, NEXT, CJ, LBL, file, t9, blank, still}
 use Rattle.bound.specs.Scans.{Quiet, EndsIn}
 use Rattle.bound.proofs.LabelRule.{label-rule}
 use Rattle.bound.proofs.Accepted.{accepted-right}
@@ -54,21 +56,24 @@ real-ok : checkFor ec20 real ≡ Accepted 22 58
 unfolding computing
 real-ok = refl
 
--- so, whatever memory, elapsed units and budget are, no scan of it makes more than 58 steps
-real-most : (e b : ℕ) (c : Memory) → runOf (programOf real) e b 0 (startWorld ec20 c) .steps ≤ 58
+-- so, whatever memory, elapsed time and budget are, no scan of it makes more than 58 steps
+real-most : (e : Units) (b : ℕ) (c : Memory) → runOf (programOf real) e b 0 (startWorld ec20 c) .steps ≤ 58
 real-most e b c = at-most-w ec20 real 22 58 real-ok e c b
 
 -- and with a budget of 58 the answer of memory that fits is "ended"
-blank-fits : fitting ec20 7 blank ≡ true
+blank-fits : fitting ec20 7 (still blank) ≡ true
 unfolding computing
 blank-fits = refl
 
-real-ends : EndsIn (scanOf real 7 58 blank .answer) 22 58
+real-ends : EndsIn (scanOf real 7 58 (still blank) .answer) 22 58
 unfolding checkOf
-real-ends = scan-of-ends real 22 58 real-ok 7 58 blank (omega arith) blank-fits
+real-ends = scan-of-ends real 22 58 real-ok 7 58 (still blank) (omega arith) blank-fits
+
+abbrev none-given : Units
+none-given = unitsIn 0 (0 ∷ 0 ∷ [])
 
 -- no jump taken: X1 and M0 are off
-none-taken : runOf (programOf real) 0 60 0 (startWorld ec20 blank) .steps ≡ 58
+none-taken : runOf (programOf real) none-given 60 0 (startWorld ec20 blank) .steps ≡ 58
 unfolding computing
 none-taken = refl
 
@@ -76,7 +81,7 @@ none-taken = refl
 on : Memory
 on = memory (2 ∷ replicate 31 0) (blank .y) (1 ∷ replicate 249 0) (blank .sm) (blank .t) (blank .d) (blank .tv)
 
-both-taken : runOf (programOf real) 0 60 0 (startWorld ec20 on) .steps ≡ 26
+both-taken : runOf (programOf real) none-given 60 0 (startWorld ec20 on) .steps ≡ 26
 unfolding computing on
 both-taken = refl
 
@@ -103,8 +108,8 @@ t9-straight : some-below 5 (λ k. isJump (controlsOf (programOf t9) k)) ≡ fals
 unfolding computing
 t9-straight = refl
 
-pub t9-quiet : (e : ℕ) (c : Memory) → Quiet (programOf t9) e (startWorld ec20 c)
+pub t9-quiet : (e : Units) (c : Memory) → Quiet (programOf t9) e (startWorld ec20 c)
 t9-quiet e c = no-jump ec20 t9 5 11 t9-ok e c t9-straight
 
-t9-steps : (e b : ℕ) (c : Memory) → 11 ≤ b → runOf (programOf t9) e b 0 (startWorld ec20 c) .steps ≡ 11
+t9-steps : (e : Units) (b : ℕ) (c : Memory) → 11 ≤ b → runOf (programOf t9) e b 0 (startWorld ec20 c) .steps ≡ 11
 t9-steps e b c h = exactly-w ec20 t9 5 11 t9-ok e c b h (t9-quiet e c)

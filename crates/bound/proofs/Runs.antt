@@ -9,6 +9,7 @@ use lib.ListN.{length}
 use borrow.Author.Tests.{eq-eqb, ne-eqb}
 use Rattle.ec20.specs.declared.Control.the-variants.{Jumps}
 use Rattle.ec20.specs.declared.Judged.the-variants.{Fine}
+use Rattle.ec20.specs.declared.Units.{Units}
 use Rattle.ec20.specs.Code.{Program}
 use Rattle.ec20.specs.Control.{controlOf, controlsOf}
 use Rattle.ec20.specs.Devices.{Device}
@@ -29,7 +30,7 @@ use Rattle.bound.proofs.Due.{left-held}
 use Rattle.bound.proofs.Stack.{length-loops, fors-same}
 use Rattle.bound.proofs.Engine.{Eights, step-same, step-eights}
 
-module _ (p : Program) (e : ℕ) where
+module _ (p : Program) (e : Units) where
   run-none : (k : ℕ) (w : World) → runOf p e zero k w ≡ record { steps = k; after = w }
   unfolding runOf
   run-none k w = refl
@@ -164,7 +165,7 @@ module _ (p : Program) (e : ℕ) where
 
 -- of a program in which nothing of 5 to 8 is refused, from the start of a scan on
 module _ (v : Device) (p : Program) (some : 0 < p .count) (fine : judgeProgram p ≡ Fine) where
-  pub from-start : (e n : ℕ) (c : Memory) → Kept p e (runOf p e n 0 (startWorld v c)) (startWorld v c) n 0 (wOf p)
+  pub from-start : (e : Units) (n : ℕ) (c : Memory) → Kept p e (runOf p e n 0 (startWorld v c)) (startWorld v c) n 0 (wOf p)
   unfolding loopsOf
   from-start e n c =
       let h = judged-whole p some fine in

@@ -10,6 +10,7 @@ use Rattle.ec20.specs.declared.Control.the-variants.{Plain, Opens, Closes, Jump
 use Rattle.ec20.specs.declared.Machine.{Machine}
 use Rattle.ec20.specs.declared.Report.{Report}
 use Rattle.ec20.specs.declared.Scanned.the-variants.{Ended, Watchdog, Refused}
+use Rattle.ec20.specs.declared.Units.{Units}
 use Rattle.ec20.specs.declared.Verdict.the-variants.{Accepted}
 use Rattle.ec20.specs.Basics.{pick, some-below}
 use Rattle.ec20.specs.Devices.{Device, ec20}
@@ -18,7 +19,8 @@ use Rattle.ec20.specs.Control.{controlsOf}
 use Rattle.ec20.specs.Check.{checkFor, checkOf}
 use Rattle.ec20.specs.Flow.{isOn}
 use Rattle.ec20.specs.Memory.{Memory}
-use Rattle.ec20.specs.Scan.{Run, runOf, startWorld, scan, answerOf, runScan, fitting, scanFor, scanOf}
+use Rattle.ec20.specs.Plant.{Plant, unitsIn}
+use Rattle.ec20.specs.Scan.{Run, runOf, startWorld, scan, answerOf, runScan, timedScan, fitting, scanFor, scanOf}
 use Rattle.bound.specs.Small.{State, control, moveOn}
 use Rattle.bound.specs.Safe.{Safe, AtEnd}
 use Rattle.bound.specs.Scans.{Quiet, EndsIn}
@@ -42,8 +44,8 @@ isJump (Jumps l) = true
 isJump (Marks l) = false
 isJump Ends = false
 
--- a file that the check accepts, with n records and W = w; any device, elapsed units and memory
-module _ (v : Device) (f : List ℕ) (n w : ℕ) (ok : checkFor v f ≡ Accepted n w) (e : ℕ) (c : Memory) where
+-- a file that the check accepts, with n records and W = w; any device, units given to timers, and memory
+module _ (v : Device) (f : List ℕ) (n w : ℕ) (ok : checkFor v f ≡ Accepted n w) (e : Units) (c : Memory) where
   -- what b steps come to
   abbrev pub run : ℕ → Run
   run b = runOf (programOf f) e b 0 (startWorld v c)
@@ -94,29 +96,35 @@ module _ (v : Device) (f : List ℕ) (n w : ℕ) (ok : checkFor v f ≡ Accepted
       let a = none-at (λ k. isJump (controlsOf (programOf f) k)) 0 n h k (omega arith) (omega (arith, due-inside j)) in
       differ (sym (ap isJump y) ∙ a)
 
-  -- The scan's answer, of memory that fits: ended, in at most W steps
-  pub scan-ends : (b : ℕ) → w ≤ b → fitting v e c ≡ true → EndsIn (scanFor v f e b c .answer) n w
-  unfolding scanFor runScan
+-- The scan's answer: of elapsed milliseconds, memory and leftovers
+module _ (v : Device) (f : List ℕ) (n w : ℕ) (ok : checkFor v f ≡ Accepted n w) (e : ℕ) (q : Plant) where
+  abbrev given : Units
+  given = unitsIn e (q .rest)
+
+  -- where they fit: ended, in at most W steps
+  pub scan-ends : (b : ℕ) → w ≤ b → fitting v e q ≡ true → EndsIn (scanFor v f e b q .answer) n w
+  unfolding scanFor timedScan runScan
   scan-ends b h x =
-      let a = reaches-end b h in
+      let a = reaches-end v f n w ok given (q .mem) b h in
+      let r = run v f n w ok given (q .mem) b in
       record {
-        report = record { steps = run b .steps; stop = run b .after .st .pc; error = run b .after .st .error; at = run b .after .st .at };
-        answer = rw (ok, x) (answer-ended (run b .steps) (run b .after .st) (a .ended));
-        few = at-most-w b;
+        report = record { steps = r .steps; stop = r .after .st .pc; error = r .after .st .error; at = r .after .st .at };
+        answer = rw (ok, x) (answer-ended (r .steps) (r .after .st) (a .ended));
+        few = at-most-w v f n w ok given (q .mem) b;
         last = a .last ∙ accepted-count v f n w ok;
       }
 
-  -- and never "watchdog", of any memory
-  pub never-watchdog : (b : ℕ) → w ≤ b → (r : Report) → scanFor v f e b c .answer ≡ Watchdog r → ⊥
+  -- and never "watchdog", of any
+  pub never-watchdog : (b : ℕ) → w ≤ b → (r : Report) → scanFor v f e b q .answer ≡ Watchdog r → ⊥
   unfolding scanFor
-  never-watchdog b h r y = go (fitting v e c) refl (rw ok at y)
+  never-watchdog b h r y = go (fitting v e q) refl (rw ok at y)
     where
-      go : (t : Bool) → fitting v e c ≡ t → pick t (runScan v (programOf f) e b c) (scan (Refused 9 0) c) .answer ≡ Watchdog r → ⊥
+      go : (t : Bool) → fitting v e q ≡ t → pick t (timedScan v (programOf f) e b q) (scan (Refused 9 0) q) .answer ≡ Watchdog r → ⊥
       go true x z = let a = scan-ends b h x in let q : _≡_ {A = ℕ} 0 1 = cc (a .answer, y) in omega arith
       go false x z = let q : _≡_ {A = ℕ} 0 1 = cc in omega arith
 
 -- of an EC20 file
-pub scan-of-ends : (f : List ℕ) (n w : ℕ) → checkOf f ≡ Accepted n w → (e b : ℕ) (c : Memory) → w ≤ b → fitting ec20 e c ≡ true
-    → EndsIn (scanOf f e b c .answer) n w
+pub scan-of-ends : (f : List ℕ) (n w : ℕ) → checkOf f ≡ Accepted n w → (e b : ℕ) (q : Plant) → w ≤ b → fitting ec20 e q ≡ true
+    → EndsIn (scanOf f e b q .answer) n w
 unfolding checkOf scanOf
-scan-of-ends f n w ok e b c h x = scan-ends ec20 f n w ok e c b h x
+scan-of-ends f n w ok e b q h x = scan-ends ec20 f n w ok e q b h x

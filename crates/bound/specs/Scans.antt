@@ -6,6 +6,7 @@ use Rattle.ec20.specs.declared.Control.the-variants.{Jumps}
 use Rattle.ec20.specs.declared.Report.{Report}
 use Rattle.ec20.specs.declared.Scanned.{Scanned}
 use Rattle.ec20.specs.declared.Scanned.the-variants.{Ended}
+use Rattle.ec20.specs.declared.Units.{Units}
 use Rattle.ec20.specs.Code.{Program}
 use Rattle.ec20.specs.Control.{controlsOf}
 use Rattle.ec20.specs.Flow.{isOn}
@@ -13,8 +14,8 @@ use Rattle.ec20.specs.Step.{World}
 use Rattle.ec20.specs.Scan.{runOf}
 
 -- no jump is taken on the way from the world w: wherever a CJ is due, flow is not on
-abbrev pub Quiet : Program → ℕ → World → Type 0
-Quiet p e w = (n l : ℕ) → controlsOf p (runOf p e n 0 w .after .st .pc) ≡ Jumps l → isOn (runOf p e n 0 w .after .st) ≡ false
+abbrev pub Quiet : Program → Units → World → Type 0
+Quiet p u w = (n l : ℕ) → controlsOf p (runOf p u n 0 w .after .st .pc) ≡ Jumps l → isOn (runOf p u n 0 w .after .st) ≡ false
 
 -- the answer is "ended", after at most w steps, stopped at the last of n records
 pub record EndsIn (a : Scanned) (n w : ℕ) : Type 0 where

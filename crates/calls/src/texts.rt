@@ -72,69 +72,72 @@ pub const NEW: usize = 96;
 
 pub const MEMORY: usize = 97;
 
-pub const LINE: usize = 104;
+pub const LINE: usize = 105;
 
-pub const FAR: usize = 105;
+pub const FAR: usize = 106;
 // One scan, more; none differs, one, more.
-pub const SCANS: usize = 106;
+pub const SCANS: usize = 107;
 
-pub const DIFFER: usize = 108;
+pub const DIFFER: usize = 109;
 
 // What could not be tried: why a call of the system failed, and which word of a call is no number.
-pub const REASON: usize = 111;
+pub const REASON: usize = 112;
 
-pub const NO_NUMBER: usize = 119;
+pub const NO_NUMBER: usize = 120;
 
-pub const LOST: usize = 127;
+pub const LOST: usize = 128;
 
-pub const TOO_LONG: usize = 128;
+pub const TOO_LONG: usize = 129;
 
-pub const USAGE: usize = 129;
+pub const USAGE: usize = 130;
 
 // What came of a call, and the same where a file was replaced.
-pub const STATUS: usize = 130;
+pub const STATUS: usize = 131;
 
 // Of requests: what refusal 16 means, what is no number, and the answers. The bytes of a reply stand after REPLY.
-pub const REFUSAL_16: usize = 132;
+pub const REFUSAL_16: usize = 133;
 
-pub const NO_STATION: usize = 133;
+pub const NO_STATION: usize = 134;
 
-pub const SILENT: usize = 134;
+pub const SILENT: usize = 135;
 
-pub const REPLY: usize = 135;
+pub const REPLY: usize = 136;
 
 // Of a slave: what happened, and what is no number.
-pub const SERVED: usize = 136;
+pub const SERVED: usize = 137;
 
-pub const NO_SECONDS: usize = 137;
+pub const NO_SECONDS: usize = 138;
 
 // Of declarations: a clash of two, with their names between the texts, and which kind it is; how many there are; a split by a record, and the block that it
 // is partly in. BLOCK tells the words of a block and its unit, of one word the text after it. What 10 and 15 mean of a list.
-pub const CLASH: usize = 138;
+pub const CLASH: usize = 139;
 
-pub const BLOCK: usize = 139;
+pub const BLOCK: usize = 140;
 
-pub const AND_NAME: usize = 141;
+pub const AND_NAME: usize = 142;
 
-pub const TWO_BLOCKS: usize = 142;
+pub const TWO_BLOCKS: usize = 143;
 
-pub const SHARED_WORDS: usize = 143;
+pub const SHARED_WORDS: usize = 144;
 
-pub const CLASHES: usize = 144;
+pub const CLASHES: usize = 145;
 
-pub const SPLIT: usize = 145;
+pub const SPLIT: usize = 146;
 
-pub const PARTLY_IN: usize = 146;
+pub const PARTLY_IN: usize = 147;
 
-pub const UNITS_10: usize = 147;
+pub const UNITS_10: usize = 148;
 
-pub const REFUSAL_15: usize = 148;
+pub const REFUSAL_15: usize = 149;
 
 // The part of the mixer's story that has them.
-pub const UNITS: usize = 149;
+pub const UNITS: usize = 150;
 
 // A scan that named no budget was stopped by the watchdog.
-pub const NAME_A_BUDGET: usize = 150;
+pub const NAME_A_BUDGET: usize = 151;
+
+// A memory file of 16,890 bytes, as they were before the leftovers of the timers stood in it.
+pub const OF_BEFORE: usize = 152;
 
 // Bytes to a descriptor. Answers the descriptor, or -1 where not all was written; nothing is written to -1. So what the last of a row of calls
 // answers tells of them all.
@@ -211,13 +214,13 @@ exchanged D% with D%\n\0\
 : NEXT with no FOR open, a ninth open FOR, END not last, or the last record no END or in an open FOR\n\0\
 : label set twice, or a CJ whose label does not stand later and directly in the same loop body\n\0\
 : a scan may take more than 10,000,000 steps\n\0\
-: a memory table of a wrong size, or elapsed units above 32767\n\0\
+: the memory file is not 16892 bytes long, its leftovers, the last two bytes, are above 9 or 99, or ELAPSED is above 10000\n\0\
 : the block is empty or not inside D0 to D7999\n\0\
 : the pool starts above its end, or ends above 8000\n\0\
 : the block meets WORK, D7900 to D7999\n\0\
 : an operand is partly in the block\n\0\
 : no place in the pool for the block\n\0\
-: the memory file is not 16890 bytes long\n\0\
+: the memory file is not 16892 bytes long\n\0\
 : the place is not inside D0 to D7999, meets the block, or meets WORK, D7900 to D7999\n\0\
 \x20(NOP)\0 (LD)\0 (LDI)\0 (AND)\0 (ANI)\0 (OR)\0 (ORI)\0 (ANB)\0 (ORB)\0 (MPS)\0 (MRD)\0 (MPP)\0\
 \x20(OUT)\0 (SET)\0 (RST)\0 (LD=)\0 (LD>)\0 (LD<)\0 (TON)\0 (FOR)\0 (NEXT)\0 (CJ)\0 (LBL)\0 (END)\0\
@@ -244,7 +247,7 @@ to have a place of its own among D300-D399.\n\
 \x20reaches over the edge of the block.\n\
 \x20  A move would tear its words apart: some would go and some would stay.\n\0\
 \n4. The move of the true block, D100-D106, and both programs side by side. Before each scan\n\
-\x20  all inputs X are drawn anew; a scan has 1 unit of 100 ms and at most 1,000,000 steps.\n\
+\x20  all inputs X are drawn anew; a scan has 100 ms and at most 1,000,000 steps.\n\
 \x20  Told are the steps, the record stopped at, and the first error with its record (1 is\n\
 \x20  a division by zero). Alike: both programs answer the same and, with block and place\n\
 \x20  exchanged, leave the same memory.\n\0\
@@ -264,6 +267,7 @@ scan %\0\
 , memory first at T contacts (byte %)\0\
 , memory first at D% (byte %)\0\
 , memory first at T value % (byte %)\0\
+, memory first at the leftovers (byte %)\0\
 \n\0\
 % of % scans\n\0\
 % scan, \0% scans, \0\
@@ -306,7 +310,8 @@ split % record %\0\
 : refusal 15 at line %, counted from 0: not UNIT (0 to 65535), NAME (eight bytes), START and LENGTH with one blank between, or not ended\n\0\
 \n2. What both units declare, examples/mixer.units: a clash, and a block that the program itself\n\
 \x20  reaches over:\n\0\
-ninhalto: stopped after % steps, since no BUDGET is named; as many as check tells are enough for any scan\n\0",
+ninhalto: stopped after % steps, since no BUDGET is named; as many as check tells are enough for any scan\n\0\
+ninhalto: a memory file of before, of 16890 bytes, needs two zero bytes more at its end: the leftovers of the timers\n\0",
         k,
         a,
         b,

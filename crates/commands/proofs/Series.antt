@@ -17,8 +17,9 @@ use Rattle.ec20.specs.Devices.{ec20}
 use Rattle.ec20.specs.Exchange.{Exchange, exchanged, judgeExchange, exchangeIf, exchangeFor, exchangeOf}
 use Rattle.ec20.specs.Memory.{withD}
 use Rattle.ec20.specs.Move.{Block, block, moveOf}
-use Rattle.image.proofs.Inverse.{image-length, memory-sizes}
-use Rattle.image.specs.Image.{memoryOf, imageOf}
+use Rattle.ec20.specs.Plant.{Plant, plant}
+use Rattle.image.proofs.Inverse.{image-length, plant-sizes}
+use Rattle.image.specs.Image.{plantOf, imageOf}
 use Rattle.memories.specs.Images.{exchangeIn}
 use Rattle.memories.specs.declared.exchanges.Way.{Way}
 use Rattle.memory_scans.proofs.Alike.{inputs-alike}
@@ -30,7 +31,7 @@ use Rattle.turns.specs.Turns.{MovedTo, drawn}
 
 -- the memory file y is x with the ranges exchanged
 abbrev pub Exchanged-in : Way → List ℕ → List ℕ → Type 0
-Exchanged-in w x y = memoryOf y ≡ withExchange (block (w .start) (w .length)) (w .place) (memoryOf x)
+Exchanged-in w x y = plantOf y ≡ withExchange (block (w .start) (w .length)) (w .place) (plantOf x)
 
 -- the new program is the old one, moved
 abbrev pub Moved-in : Way → List ℕ → List ℕ → Type 0
@@ -43,8 +44,8 @@ None-differs w f g x₀ y₀ differ x y = Moved-in w f g → Exchanged-in w x₀
 -- inputs that are drawn for both
 pub drawn-alike : (w : Way) (s : ℕ) (x y : List ℕ) {x′ y′ : List ℕ} → x′ ≡ sent (drawn 32 s) x → y′ ≡ sent (drawn 32 s) y → Exchanged-in w x y → Exchanged-in w x′ y′
 drawn-alike w s x y e f h =
-    ap memoryOf f ∙ inputs-alike (block (w .start) (w .length)) (w .place) (drawn 32 s) x y (drawn-length 32 s) h
-    ∙ sym (ap (λ (l : List ℕ). withExchange (block (w .start) (w .length)) (w .place) (memoryOf l)) e)
+    ap plantOf f ∙ inputs-alike (block (w .start) (w .length)) (w .place) (drawn 32 s) x y (drawn-length 32 s) h
+    ∙ sym (ap (λ (l : List ℕ). withExchange (block (w .start) (w .length)) (w .place) (plantOf l)) e)
 
 -- ---- the exchange that comes first
 
@@ -66,17 +67,23 @@ granted w f g m d h = exchange-done (taken ec20 f (block (w .start) (w .length))
 -- what the exchange in a memory file promises: its answer, the memory that the bytes then mean, the bytes, and that a refused one changes none
 abbrev Exchanges-in : Way → List ℕ → Exchanged → List ℕ → Type 0
 Exchanges-in w x r x′ =
-    let e = exchangeIn 16890 (block (w .start) (w .length)) (w .place) (memoryOf x) in
-    (r ≡ e .answer) × ((memoryOf x′ ≡ e .mem) × ((x′ ≡ imageOf (e .mem)) × ((m k : ℕ) → r ≡ Refused m k → x′ ≡ x)))
+    let e = exchangeIn 16892 (block (w .start) (w .length)) (w .place) (plantOf x) in
+    (r ≡ e .answer) × ((plantOf x′ ≡ e .plant) × ((x′ ≡ imageOf (e .plant)) × ((m k : ℕ) → r ≡ Refused m k → x′ ≡ x)))
+
+-- with other D words
+abbrev with-words : Plant → List ℤ → Plant
+with-words p d = plant (withD (p .mem) d) (p .rest)
 
 pub exchanged-in : (w : Way) (f g x : List ℕ) {x′ : List ℕ} (r : Exchanged) → Moved-in w f g → Exchanges-in w x r x′ → Exchanged-in w x x′
 unfolding exchangeIn exchangeOf exchangeFor
 exchanged-in w f g x Done m h =
     let b = block (w .start) (w .length) in
-    h .1 .0 ∙ ap (withD (memoryOf x)) (done-words (judgeExchange ec20 (memoryOf x .d) b (w .place)) (memoryOf x .d) b (w .place) (h .0))
+    let p = plantOf x in
+    h .1 .0 ∙ ap (with-words p) (done-words (judgeExchange ec20 (p .mem .d) b (w .place)) (p .mem .d) b (w .place) (h .0))
 exchanged-in w f g x (Refused n k) m h =
-    let size : length x ≡ 16890 = ap length (sym (h .1 .1 .1 n k refl)) ∙ ap length (h .1 .1 .0) ∙ image-length _ in
-    h .1 .0 ∙ ap (λ (e : Exchange). withD (memoryOf x) (e .words)) (granted w f g m (memoryOf x .d) (memory-sizes x size .d))
+    let size : length x ≡ 16892 = ap length (sym (h .1 .1 .1 n k refl)) ∙ ap length (h .1 .1 .0) ∙ image-length _ in
+    let p = plantOf x in
+    h .1 .0 ∙ ap (λ (e : Exchange). with-words p (e .words)) (granted w f g m (p .mem .d) (plant-sizes x size .d))
 
 -- so a trial does not end in 'found to differ'
 pub not-one : {s : ℕ} → (s ≡ 0) ⊎ (s ≡ 2) → s ≡ 1 → ⊥
@@ -88,4 +95,4 @@ moved-parts w f g k m = subst (λ (j : ℕ). Moved-in w (take j f) (take j g)) (
 
 -- both memories are of the same bytes, and then the ranges are exchanged in one
 pub from-same : (w : Way) {x x₀ y₀ : List ℕ} (y : List ℕ) → x ≡ x₀ → y₀ ≡ x₀ → Exchanged-in w y₀ y → Exchanged-in w x y
-from-same w y e f h = h ∙ ap (λ (l : List ℕ). withExchange (block (w .start) (w .length)) (w .place) (memoryOf l)) (f ∙ sym e)
+from-same w y e f h = h ∙ ap (λ (l : List ℕ). withExchange (block (w .start) (w .length)) (w .place) (plantOf l)) (f ∙ sym e)

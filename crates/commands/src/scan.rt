@@ -18,7 +18,7 @@ fn run_loaded(
     let mut image = tables::image();
     tables::start(memory, &mut image);
     let s = memory_scans::scan(f, &mut image, size, a.elapsed, a.budget);
-    scans::tell(call, f, s, &image, out, err)
+    scans::tell(call, f, s, &image, size, out, err)
 }
 
 pub fn run(call: &[u8], out: i32, err: i32) -> Outcome {

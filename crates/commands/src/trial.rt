@@ -2,7 +2,7 @@
 // what they answer and leave is compared. No file is changed. demo FILE MEMORY UNITS: the same for the mixer, after the story of it.
 ghost use Rattle.demands.specs.Demand3.{withExchange};
 ghost use Rattle.ec20.specs.Move.{block};
-ghost use Rattle.image.specs.Image.{memoryOf};
+ghost use Rattle.image.specs.Image.{plantOf};
 ghost use Rattle.turns.specs.Turns.{MovedTo};
 ghost use lib.ListN.{take};
 ghost use mathlib.Core.Path.{_≡_};
@@ -19,19 +19,22 @@ use turns::images;
 // The most steps that a scan of a trial may take, which is more than one without a budget may (document 02, (vi)).
 const BUDGET: u32 = 1_000_000;
 
+// The milliseconds of a scan of a trial: one unit of the 100 ms timers.
+const ELAPSED: u32 = 100;
+
 // n scans of each program, which is checked and made ready once, the old one over memory a, the new one over memory b, in which block and place are
 // exchanged. The inputs are drawn anew before each. Of an accepted move none differs.
 fn scans(
     old: &[u8],
     new: &[u8],
-    a: &mut [u8; 16890],
-    b: &mut [u8; 16890],
+    a: &mut [u8; 16892],
+    b: &mut [u8; 16892],
     w: Way,
     n: u32,
     out: i32,
     err: i32,
 ) -> Sum
-    ensures { λ r. ⌜ (MovedTo (now (old .entry)) (block (w .start) (w .length)) (w .place) (now (new .entry)) → memoryOf (now (b .entry)) ≡ withExchange (block (w .start) (w .length)) (w .place) (memoryOf (now (a .entry))) → r .differ ≡ 0) ⌝ }
+    ensures { λ r. ⌜ (MovedTo (now (old .entry)) (block (w .start) (w .length)) (w .place) (now (new .entry)) → plantOf (now (b .entry)) ≡ withExchange (block (w .start) (w .length)) (w .place) (plantOf (now (a .entry))) → r .differ ≡ 0) ⌝ }
 {
     let p = engine::make_ready(old);
     let old_goes = engine::look_up(old, p);
@@ -42,7 +45,19 @@ fn scans(
     let mut state: u32 = 1;
     while k < n {
         state = images::draw_inputs(a, b, state);
-        let t = pairs::pair(old, p, &old_goes, new, q, &new_goes, a, b, w, 1, BUDGET);
+        let t = pairs::pair(
+            old,
+            p,
+            &old_goes,
+            new,
+            q,
+            &new_goes,
+            a,
+            b,
+            w,
+            ELAPSED,
+            BUDGET,
+        );
         s = shown::scan(s, k, n, t, err);
         k += 1;
     }
@@ -54,14 +69,14 @@ fn parts(
     old: &[u8],
     new: &[u8],
     size: usize,
-    a: &mut [u8; 16890],
-    b: &mut [u8; 16890],
+    a: &mut [u8; 16892],
+    b: &mut [u8; 16892],
     w: Way,
     n: u32,
     out: i32,
     err: i32,
 ) -> Sum
-    ensures { λ r. ⌜ (MovedTo (take size (now (old .entry))) (block (w .start) (w .length)) (w .place) (take size (now (new .entry))) → memoryOf (now (b .entry)) ≡ withExchange (block (w .start) (w .length)) (w .place) (memoryOf (now (a .entry))) → r .differ ≡ 0) ⌝ }
+    ensures { λ r. ⌜ (MovedTo (take size (now (old .entry))) (block (w .start) (w .length)) (w .place) (take size (now (new .entry))) → plantOf (now (b .entry)) ≡ withExchange (block (w .start) (w .length)) (w .place) (plantOf (now (a .entry))) → r .differ ≡ 0) ⌝ }
 {
     if size > old.len() {
         return shown::begun(-1);
@@ -91,7 +106,7 @@ fn run_moved(
     let mut b = tables::image();
     tables::start(memory, &mut a);
     tables::start(memory, &mut b);
-    exchanges::in_image(&mut b, 16890, w);
+    exchanges::in_image(&mut b, 16892, w);
     let s = parts(old, new, size, &mut a, &mut b, w, n, out, err);
     shown::ended(n, s, err)
 }

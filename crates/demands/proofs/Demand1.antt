@@ -1,9 +1,9 @@
 -- DEMAND 1 IS MET: demand-1. Its words and its statement are in specs/Demand1.antt.
 use Prim.Native.Nat.{ℕ}
-use mathlib.Core.List.{List, []}
+use mathlib.Core.List.{List, [], _∷_}
 use mathlib.Core.Path.{_≡_, refl, ap}
 use Rattle.ec20.proofs.Computing.{computing}
-use Rattle.ec20.proofs.Files.{D, r3, alone, blank}
+use Rattle.ec20.proofs.Files.{D, r3, alone, blank, still}
 use Rattle.ec20.specs.declared.Exchanged.the-variants.{Refused as NotExchanged}
 use Rattle.ec20.specs.declared.Moved.the-variants.{To, Refused as NotMoved}
 use Rattle.ec20.specs.declared.Scanned.the-variants.{Refused as NotScanned}
@@ -14,6 +14,7 @@ use Rattle.ec20.specs.Devices.{Device, ec20}
 use Rattle.ec20.specs.Exchange.{exchangeFor}
 use Rattle.ec20.specs.File.{countOf, recordsOf}
 use Rattle.ec20.specs.Move.{block, pool, moveFor}
+use Rattle.ec20.specs.Plant.{Plant, plant}
 use Rattle.ec20.specs.Scan.{scanFor}
 use Rattle.ec20.specs.UseMap.{mapIf, mapFor}
 use Rattle.agreed.proofs.Answers.{answers}
@@ -65,7 +66,7 @@ pub demand-1 : Demand1
 demand-1 = record {
   ends = scan-ends ec20;
   check-numbers = λ f. record { told = check-numbers ec20 f; only = λ r n. check-same n (told ec20 f) };
-  scan-numbers = λ f e b c. record { told = scan-numbers ec20 f e b c; only = scan-only ec20 f e b c };
+  scan-numbers = λ f e b q. record { told = scan-numbers ec20 f e b q; only = scan-only ec20 f e b q };
   map-numbers = map-numbers ec20;
   move-numbers = λ f b l. record { told = move-numbers ec20 f b l; only = move-only ec20 f b l };
   exchange-numbers = λ d b q. record { told = exchange-numbers ec20 d b q; only = exchange-only ec20 d b q };
@@ -83,13 +84,23 @@ sample-ok : checkFor ec20 sample ≡ Accepted 3 3
 unfolding computing
 sample-ok = refl
 
--- 9: elapsed 32768
-nine : scanFor ec20 sample 32768 100 blank .answer ≡ NotScanned 9 0
+-- 9: elapsed 10,001 ms; and a leftover of 10 ms for the 10 ms timers
+nine : scanFor ec20 sample 10001 100 (still blank) .answer ≡ NotScanned 9 0
 unfolding computing
 nine = refl
 
-pub late : Line9 ec20 32768 blank
-late = demand-1 .scan-numbers sample 32768 100 blank .told .nine 0 .0 nine .2
+pub late : Line9 ec20 10001 (still blank)
+late = demand-1 .scan-numbers sample 10001 100 (still blank) .told .nine 0 .0 nine .2
+
+abbrev spilt : Plant
+spilt = plant blank (10 ∷ 0 ∷ [])
+
+nine-spilt : scanFor ec20 sample 0 100 spilt .answer ≡ NotScanned 9 0
+unfolding computing
+nine-spilt = refl
+
+pub too-much : Line9 ec20 0 spilt
+too-much = demand-1 .scan-numbers sample 0 100 spilt .told .nine 0 .0 nine-spilt .2
 
 -- 10, 11, 12: an empty block, a pool from 5 to 4, a block into WORK
 ten : moveFor ec20 sample (block 0 0) (pool 0 100) .answer ≡ NotMoved 10 0

@@ -18,8 +18,9 @@ use Rattle.ec20.specs.declared.Moved.the-variants.{To}
 use Rattle.ec20.specs.Devices.{Device, ec20, within}
 use Rattle.ec20.specs.Exchange.{swapped, exchangeBy}
 use Rattle.ec20.specs.File.{byteAt, firstOf, countOf}
-use Rattle.ec20.specs.Memory.{Memory, withD}
+use Rattle.ec20.specs.Memory.{withD}
 use Rattle.ec20.specs.Move.{Block, block, Pool, pool, Move, move, moveFor, movedByte, movedFile}
+use Rattle.ec20.specs.Plant.{Plant, plant}
 use Rattle.ec20.specs.Registers.{wordAt}
 use Rattle.ec20.specs.Scan.{Scan}
 use Rattle.moving.specs.Rename.{Swap}
@@ -149,14 +150,14 @@ pub sample-lowest : Lowest ec20 (sample 100) ten free 202
 sample-lowest = met .picks 202 .0 (ap (λ (m : Move). m .answer) goes) .1
 
 -- D201 holds 3: the quotient 33333 stands at D104 in the old program's table, at D206 in the moved one's, after each of two scans
-pub three : Memory
-three = withD blank (set (blank .d) 201 (pos 3))
+pub three : Plant
+three = plant (withD blank (set (blank .d) 201 (pos 3))) (9 ∷ 99 ∷ [])
 
 abbrev twice : List Input
 twice = record { x = replicate 32 255; elapsed = 1; budget = 100 } ∷ record { x = replicate 32 0; elapsed = 2; budget = 4 } ∷ []
 
 abbrev read-at : ℕ → Scan → ℤ
-read-at i s = wordAt (s .mem .d) i
+read-at i s = wordAt (s .plant .mem .d) i
 
 pub old-quotients : map (read-at 105) (series ec20 (sample 100) three twice) ≡ negℤ (pos 32203) ∷ negℤ (pos 32203) ∷ []
 unfolding computing series three
@@ -168,3 +169,12 @@ new-quotients = refl
 
 pub quotients-same : series ec20 (sample 202) (withExchange ten 202 three) twice ≡ map (scanExchanged ten 202) (series ec20 (sample 100) three twice)
 quotients-same = sample-same .scans three twice
+
+-- of 9 and 99 ms, of which the first scan makes a whole unit each, both leave the same
+abbrev leftovers : List Scan → List (List ℕ)
+leftovers ss = map (λ (s : Scan). s .plant .rest) ss
+
+pub leftovers-same : (leftovers (series ec20 (sample 100) three twice) ≡ (0 ∷ 0 ∷ []) ∷ (2 ∷ 2 ∷ []) ∷ [])
+    × (leftovers (series ec20 (sample 202) (withExchange ten 202 three) twice) ≡ (0 ∷ 0 ∷ []) ∷ (2 ∷ 2 ∷ []) ∷ [])
+unfolding computing series three
+leftovers-same = (refl, refl)

@@ -13,6 +13,7 @@ use lib.Seq.{getD-set-same, getD-set-other}
 use borrow.Author.Tests.{eqb-true, ltb-true}
 use Rattle.ec20.proofs.Tests.{both, picked}
 use Rattle.ec20.specs.declared.Control.the-variants.{Closes}
+use Rattle.ec20.specs.declared.Units.{Units}
 use Rattle.ec20.specs.declared.Instr.{Instr}
 use Rattle.ec20.specs.declared.Instr.the-variants.{Nop, Contact, Compare, Join, Branch, Coil, Timer, For, Next, Jump, Label, End, Word}
 use Rattle.ec20.specs.declared.Machine.{Machine}
@@ -284,30 +285,30 @@ module _ (p : Program) (kept : (k : ℕ) → k < p .count → keeps (p .code k) 
     after-label l e x = record { stand = land s (s .pc + 1) (s .depth) x (next e tt); backs = h .backs }
 
     -- in record order
-    ordered : (e : ℕ) (i : Instr) → p .code (s .pc) ≡ i → Follows g s → execOf p e i w .st .ended ≡ 0 → Going (execOf p e i w)
+    ordered : (u : Units) (i : Instr) → p .code (s .pc) ≡ i → Follows g s → execOf p u i w .st .ended ≡ 0 → Going (execOf p u i w)
     unfolding execOf keeps afterRecord
-    ordered e Nop q f z =
+    ordered u Nop q f z =
         on w _ Nop q (ahead w _ _ (record { pc = refl; depth = refl; ended = refl }))
         (record { flow = f .flow; action = f .action; blocks = f .blocks; branches = f .branches }) h
-    ordered e (Contact n o) q f z = on w _ (Contact n o) q (ahead w _ _ (contact-on n _ s)) (contact-follows g s f n _ (rule q)) h
-    ordered e (Compare n a b) q f z = on w _ (Compare n a b) q (ahead w _ _ (compare-on n _ _ s)) (compare-follows g s f n _ _ (rule q)) h
-    ordered e (Join n) q f z = on w _ (Join n) q (ahead w _ _ (join-on n s)) (join-follows g s f n (rule q)) h
-    ordered e (Branch n) q f z = on w _ (Branch n) q (ahead w _ _ (branch-on n s)) (branch-follows g s f n (rule q)) h
-    ordered e (Coil n o) q f z = on w _ (Coil n o) q (ahead w _ _ (acted-on s)) (action-follows g s (acted s) f (is-acted s)) h
-    ordered e (Timer i c) q f z = on w _ (Timer i c) q (ahead w _ _ (acted-on s)) (action-follows g s (acted s) f (is-acted s)) h
-    ordered e (For c) q f z = after-for c q (is-empty g s f (rule q))
-    ordered e Next q f z = after-next q (is-empty g s f (rule q))
-    ordered e (Jump l) q f z = after-jump l q (is-empty g s f (both (g .present) (bothEmpty g) (rule q) .1))
-    ordered e (Label l) q f z = after-label l q (is-empty g s f (rule q))
-    ordered e End q f z = absurd (omega (arith, z))
-    ordered e (Word n a b t) q f z = on w _ (Word n a b t) q (word-on n a b t w) (action-follows g s _ f (is-word n a b t w)) h
+    ordered u (Contact n o) q f z = on w _ (Contact n o) q (ahead w _ _ (contact-on n _ s)) (contact-follows g s f n _ (rule q)) h
+    ordered u (Compare n a b) q f z = on w _ (Compare n a b) q (ahead w _ _ (compare-on n _ _ s)) (compare-follows g s f n _ _ (rule q)) h
+    ordered u (Join n) q f z = on w _ (Join n) q (ahead w _ _ (join-on n s)) (join-follows g s f n (rule q)) h
+    ordered u (Branch n) q f z = on w _ (Branch n) q (ahead w _ _ (branch-on n s)) (branch-follows g s f n (rule q)) h
+    ordered u (Coil n o) q f z = on w _ (Coil n o) q (ahead w _ _ (acted-on s)) (action-follows g s (acted s) f (is-acted s)) h
+    ordered u (Timer i c) q f z = on w _ (Timer i c) q (ahead w _ _ (acted-on s)) (action-follows g s (acted s) f (is-acted s)) h
+    ordered u (For c) q f z = after-for c q (is-empty g s f (rule q))
+    ordered u Next q f z = after-next q (is-empty g s f (rule q))
+    ordered u (Jump l) q f z = after-jump l q (is-empty g s f (both (g .present) (bothEmpty g) (rule q) .1))
+    ordered u (Label l) q f z = after-label l q (is-empty g s f (rule q))
+    ordered u End q f z = absurd (omega (arith, z))
+    ordered u (Word n a b t) q f z = on w _ (Word n a b t) q (word-on n a b t w) (action-follows g s _ f (is-word n a b t w)) h
 
     -- THE STEP: if the scan goes on, it stands so again
-    pub step-going : (e : ℕ) → stepOf p e w .st .ended ≡ 0 → Going (stepOf p e w)
+    pub step-going : (u : Units) → stepOf p u w .st .ended ≡ 0 → Going (stepOf p u w)
     unfolding stepOf execOf
-    step-going e z = go (h .stand)
+    step-going u z = go (h .stand)
       where
-        go : Stand s → Going (execOf p e (p .code (s .pc)) w)
-        go (in-order f) = ordered e (p .code (s .pc)) refl f z
+        go : Stand s → Going (execOf p u (p .code (s .pc)) w)
+        go (in-order f) = ordered u (p .code (s .pc)) refl f z
         go (jumped l q f) =
-            subst (λ (i : Instr). Going (execOf p e i w)) (sym q) (after-label l q (record { blocks = f .blocks; branches = f .branches }))
+            subst (λ (i : Instr). Going (execOf p u i w)) (sym q) (after-label l q (record { blocks = f .blocks; branches = f .branches }))

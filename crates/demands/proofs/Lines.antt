@@ -10,67 +10,67 @@ use lib.Dec.{ltb, leb, eqb}
 use lib.IntN.{ℤ}
 use lib.ListN.{length}
 use borrow.Author.Tests.{ltb-true, ltb-false, leb-true, leb-false, eqb-true, eqb-false, not-true, not-false}
-use Rattle.ec20.proofs.Tests.{both, one-fails}
+use Rattle.ec20.proofs.Tests.{both, each, one-fails}
 use Rattle.ec20.specs.declared.Judged.the-variants.{Fine, Fault}
 use Rattle.ec20.specs.Basics.{pick}
 use Rattle.ec20.specs.Devices.{Device, meets, meetsWork}
 use Rattle.ec20.specs.Exchange.{sizeFault, placeFault}
 use Rattle.ec20.specs.Memory.{Memory, sized}
 use Rattle.ec20.specs.Move.{Block, Pool, blockFault, poolFault, blockWork}
+use Rattle.ec20.specs.Plant.{Plant, leftoverOf, leftoversFit}
 use Rattle.ec20.specs.Scan.{fitting}
 use Rattle.demands.specs.Lines.{Line9, Line10, Not10, Line11, Line12, Line9D, Line14D}
-use Rattle.demands.specs.Lines.{size-x, size-y, size-m, size-sm, size-t, size-d, size-tv, elapsed, empty, outside, start-above, end-above, in-work}
+use Rattle.demands.specs.Lines.{size-x, size-y, size-m, size-sm, size-t, size-d, size-tv, size-rest, tens, hundreds, elapsed, empty, outside, start-above, end-above, in-work}
 use Rattle.demands.specs.Lines.{outside as place-outside, in-block as place-in-block, in-work as place-in-work}
 use Rattle.demands.proofs.Ranges.{not-both, in-common, common-meets, work-common, common-work}
 use Rattle.refusals.proofs.Tells.{Tells, tells}
 
 -- ---- 9, of the scan
 
-module _ (v : Device) (e : ℕ) (c : Memory) where
-  -- the tests, in their order, each with those before it
+module _ (v : Device) (e : ℕ) (q : Plant) where
+  abbrev tables : Memory
+  tables = q .mem
+
+  -- the tests of the sizes, in their order, each with those before it
   abbrev X : Bool
-  X = eqb (length (c .x)) (v .x / 8)
+  X = eqb (length (tables .x)) (v .x / 8)
 
   abbrev XY : Bool
-  XY = X && eqb (length (c .y)) (v .y / 8)
+  XY = X && eqb (length (tables .y)) (v .y / 8)
 
   abbrev XYM : Bool
-  XYM = XY && eqb (length (c .m)) (v .m / 8)
+  XYM = XY && eqb (length (tables .m)) (v .m / 8)
 
   abbrev XYMS : Bool
-  XYMS = XYM && eqb (length (c .sm)) (v .sm / 8)
+  XYMS = XYM && eqb (length (tables .sm)) (v .sm / 8)
 
   abbrev XYMST : Bool
-  XYMST = XYMS && eqb (length (c .t)) (v .t / 8)
+  XYMST = XYMS && eqb (length (tables .t)) (v .t / 8)
 
   abbrev XYMSTD : Bool
-  XYMSTD = XYMST && eqb (length (c .d)) (v .words)
+  XYMSTD = XYMST && eqb (length (tables .d)) (v .words)
 
-  pub misfit : fitting v e c ≡ false → Line9 v e c
-  unfolding fitting sized
-  misfit h =
-      elim (one-fails (sized v c) (leb e 32767) h) [
-        | inr q ↦ elapsed (leb-false _ _ q)
-        | inl q ↦
-            elim (one-fails XYMSTD (eqb (length (c .tv)) (v .t)) q) [
-              | inr q ↦ size-tv (eqb-false _ _ q)
-              | inl q ↦
-                  elim (one-fails XYMST (eqb (length (c .d)) (v .words)) q) [
-                    | inr q ↦ size-d (eqb-false _ _ q)
-                    | inl q ↦
-                        elim (one-fails XYMS (eqb (length (c .t)) (v .t / 8)) q) [
-                          | inr q ↦ size-t (eqb-false _ _ q)
-                          | inl q ↦
-                              elim (one-fails XYM (eqb (length (c .sm)) (v .sm / 8)) q) [
-                                | inr q ↦ size-sm (eqb-false _ _ q)
-                                | inl q ↦
-                                    elim (one-fails XY (eqb (length (c .m)) (v .m / 8)) q) [
-                                      | inr q ↦ size-m (eqb-false _ _ q)
-                                      | inl q ↦
-                                          elim (one-fails X (eqb (length (c .y)) (v .y / 8)) q) [
-                                            | inr q ↦ size-y (eqb-false _ _ q)
-                                            | inl q ↦ size-x (eqb-false _ _ q)
-                                          ]
+  missized : sized v tables ≡ false → Line9 v e q
+  unfolding sized
+  missized h =
+      elim (one-fails XYMSTD (eqb (length (tables .tv)) (v .t)) h) [
+        | inr z ↦ size-tv (eqb-false _ _ z)
+        | inl z ↦
+            elim (one-fails XYMST (eqb (length (tables .d)) (v .words)) z) [
+              | inr z ↦ size-d (eqb-false _ _ z)
+              | inl z ↦
+                  elim (one-fails XYMS (eqb (length (tables .t)) (v .t / 8)) z) [
+                    | inr z ↦ size-t (eqb-false _ _ z)
+                    | inl z ↦
+                        elim (one-fails XYM (eqb (length (tables .sm)) (v .sm / 8)) z) [
+                          | inr z ↦ size-sm (eqb-false _ _ z)
+                          | inl z ↦
+                              elim (one-fails XY (eqb (length (tables .m)) (v .m / 8)) z) [
+                                | inr z ↦ size-m (eqb-false _ _ z)
+                                | inl z ↦
+                                    elim (one-fails X (eqb (length (tables .y)) (v .y / 8)) z) [
+                                      | inr z ↦ size-y (eqb-false _ _ z)
+                                      | inl z ↦ size-x (eqb-false _ _ z)
                                     ]
                               ]
                         ]
@@ -78,28 +78,62 @@ module _ (v : Device) (e : ℕ) (c : Memory) where
             ]
       ]
 
-  pub fits-all : fitting v e c ≡ true → Line9 v e c → ⊥
-  unfolding fitting sized
+  -- those of the leftovers
+  abbrev Two : Bool
+  Two = eqb (length (q .rest)) 2
+
+  abbrev Ten : Bool
+  Ten = leb (leftoverOf 10 (q .rest)) 9
+
+  abbrev Hundred : Bool
+  Hundred = leb (leftoverOf 100 (q .rest)) 99
+
+  others : leftoversFit (q .rest) ≡ false → Line9 v e q
+  unfolding leftoversFit
+  others h =
+      elim (one-fails (Two && Ten) Hundred h) [
+        | inr z ↦ let l : 99 < leftoverOf 100 (q .rest) = leb-false _ _ z in hundreds (omega arith)
+        | inl z ↦
+            elim (one-fails Two Ten z) [
+              | inr z ↦ let l : 9 < leftoverOf 10 (q .rest) = leb-false _ _ z in tens (omega arith)
+              | inl z ↦ size-rest (eqb-false _ _ z)
+            ]
+      ]
+
+  pub misfit : fitting v e q ≡ false → Line9 v e q
+  unfolding fitting
+  misfit h =
+      elim (one-fails (sized v tables && leftoversFit (q .rest)) (leb e 10000) h) [
+        | inr z ↦ let l : 10000 < e = leb-false _ _ z in elapsed (omega arith)
+        | inl z ↦ elim (one-fails (sized v tables) (leftoversFit (q .rest)) z) [ inr z ↦ others z | inl z ↦ missized z ]
+      ]
+
+  pub fits-all : fitting v e q ≡ true → Line9 v e q → ⊥
+  unfolding fitting sized leftoversFit
   fits-all h n =
-      let a = both (sized v c) (leb e 32767) h in
-      let tv = both XYMSTD (eqb (length (c .tv)) (v .t)) (a .0) in
-      let d = both XYMST (eqb (length (c .d)) (v .words)) (tv .0) in
-      let t = both XYMS (eqb (length (c .t)) (v .t / 8)) (d .0) in
-      let sm = both XYM (eqb (length (c .sm)) (v .sm / 8)) (t .0) in
-      let m = both XY (eqb (length (c .m)) (v .m / 8)) (sm .0) in
-      let y = both X (eqb (length (c .y)) (v .y / 8)) (m .0) in
-      go n (eqb-true _ _ (y .0)) (eqb-true _ _ (y .1)) (eqb-true _ _ (m .1)) (eqb-true _ _ (sm .1)) (eqb-true _ _ (t .1)) (eqb-true _ _ (d .1)) (eqb-true _ _ (tv .1)) (leb-true _ _ (a .1))
+      let a = each (sized v tables) (leftoversFit (q .rest)) (leb e 10000) h in
+      let r = each Two Ten Hundred (a .1) in
+      let tv = both XYMSTD (eqb (length (tables .tv)) (v .t)) (a .0) in
+      let d = both XYMST (eqb (length (tables .d)) (v .words)) (tv .0) in
+      let t = both XYMS (eqb (length (tables .t)) (v .t / 8)) (d .0) in
+      let sm = both XYM (eqb (length (tables .sm)) (v .sm / 8)) (t .0) in
+      let m = both XY (eqb (length (tables .m)) (v .m / 8)) (sm .0) in
+      let y = both X (eqb (length (tables .y)) (v .y / 8)) (m .0) in
+      go n (eqb-true _ _ (y .0)) (eqb-true _ _ (y .1)) (eqb-true _ _ (m .1)) (eqb-true _ _ (sm .1)) (eqb-true _ _ (t .1)) (eqb-true _ _ (d .1)) (eqb-true _ _ (tv .1)) (eqb-true _ _ (r .0)) (leb-true _ _ (r .1)) (leb-true _ _ (r .2)) (leb-true _ _ (a .2))
     where
-      go : Line9 v e c → length (c .x) ≡ v .x / 8 → length (c .y) ≡ v .y / 8 → length (c .m) ≡ v .m / 8 → length (c .sm) ≡ v .sm / 8 → length (c .t) ≡ v .t / 8
-          → length (c .d) ≡ v .words → length (c .tv) ≡ v .t → e ≤ 32767 → ⊥
-      go (size-x z) a b c d e f g h = z a
-      go (size-y z) a b c d e f g h = z b
-      go (size-m z) a b c d e f g h = z c
-      go (size-sm z) a b c d e f g h = z d
-      go (size-t z) a b c d e f g h = z e
-      go (size-d z) a b c d e f g h = z f
-      go (size-tv z) a b c d e f g h = z g
-      go (elapsed z) a b c d e f g h = omega (arith, z, h)
+      go : Line9 v e q → length (tables .x) ≡ v .x / 8 → length (tables .y) ≡ v .y / 8 → length (tables .m) ≡ v .m / 8 → length (tables .sm) ≡ v .sm / 8 → length (tables .t) ≡ v .t / 8
+          → length (tables .d) ≡ v .words → length (tables .tv) ≡ v .t → length (q .rest) ≡ 2 → leftoverOf 10 (q .rest) ≤ 9 → leftoverOf 100 (q .rest) ≤ 99 → e ≤ 10000 → ⊥
+      go (size-x z) a b c d e f g h i j k = z a
+      go (size-y z) a b c d e f g h i j k = z b
+      go (size-m z) a b c d e f g h i j k = z c
+      go (size-sm z) a b c d e f g h i j k = z d
+      go (size-t z) a b c d e f g h i j k = z e
+      go (size-d z) a b c d e f g h i j k = z f
+      go (size-tv z) a b c d e f g h i j k = z g
+      go (size-rest z) a b c d e f g h i j k = z h
+      go (tens z) a b c d e f g h i j k = omega (arith, z, i)
+      go (hundreds z) a b c d e f g h i j k = omega (arith, z, j)
+      go (elapsed z) a b c d e f g h i j k = omega (arith, z, k)
 
 -- ---- 10, 11, 12
 

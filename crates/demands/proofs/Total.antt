@@ -6,14 +6,16 @@ use mathlib.Core.Logic.{inl, inr}
 use mathlib.Core.Path.{_≡_, refl, subst}
 use native.Mathlib.Omega.{arith}
 use Rattle.ec20.proofs.Computing.{computing}
-use Rattle.ec20.proofs.Files.{Y, M, SM, D, KM, L, r0, r1, r2, file, alone, blank}
+use Rattle.ec20.proofs.Files.{Y, M, SM, D, KM, L, r0, r1, r2, file, alone, blank, still}
 use Rattle.ec20.specs.declared.Instr.the-variants.{Word}
 use Rattle.ec20.specs.declared.Operand.{Operand}
+use Rattle.ec20.specs.declared.Units.{Units}
 use Rattle.ec20.specs.declared.Verdict.the-variants.{Accepted}
 use Rattle.ec20.specs.Check.{checkFor}
 use Rattle.ec20.specs.Code.{Program, noOperand, programOf}
 use Rattle.ec20.specs.Devices.{Device, ec20, kindM, kindD}
 use Rattle.ec20.specs.Memory.{Memory}
+use Rattle.ec20.specs.Plant.{Plant, unitsIn}
 use Rattle.ec20.specs.Rung.{keeps}
 use Rattle.ec20.specs.Scan.{Scan, startState}
 use Rattle.ec20.specs.Step.{World}
@@ -25,7 +27,7 @@ use Rattle.refusals.proofs.Refused.{not-refused}
 use Rattle.refusals.proofs.Rung.{line-5}
 use Rattle.demands.specs.Lines.{Not9}
 use Rattle.demands.specs.Named.{Filled, OneWord, Named}
-use Rattle.demands.specs.Steps.{afterSteps, Counted}
+use Rattle.demands.specs.Steps.{afterSteps, scanAfter, Counted}
 use Rattle.demands.specs.Total.{Sound}
 use Rattle.demands.proofs.Counted.{same-world}
 use Rattle.demands.proofs.Going.{Going, in-order, powered, step-going}
@@ -47,9 +49,9 @@ module _ (v : Device) (f : List ℕ) (n w : ℕ) (ok : checkFor v f ≡ Accepted
       go true e = refl
       go false e = absurd (not-refused v f n w .0 ok .4 k h (line-5 p (formed f) k e))
 
-  module _ (e : ℕ) (c : Memory) where
+  module _ (u : Units) (c : Memory) where
     abbrev pub after : ℕ → World
-    after j = afterSteps v p e c j
+    after j = afterSteps v p u c j
 
     -- the scan has not ended after i steps, for any i below j
     abbrev pub Runs : ℕ → Type 0
@@ -57,9 +59,9 @@ module _ (v : Device) (f : List ℕ) (n w : ℕ) (ok : checkFor v f ≡ Accepted
 
     safe : (j : ℕ) → Runs j → after j .st .ended ≡ 0 → Safe p (after j)
     safe j h z =
-        let q = same-world v p e c j h z in
-        elim (each-safe v f n w ok e c j) [
-          | inl x ↦ let y : after j .st .ended ≡ 1 = subst (λ (u : World). u .st .ended ≡ 1) q (x .ended) in absurd (omega (arith, y, z))
+        let q = same-world v p u c j h z in
+        elim (each-safe v f n w ok u c j) [
+          | inl x ↦ let y : after j .st .ended ≡ 1 = subst (λ (x : World). x .st .ended ≡ 1) q (x .ended) in absurd (omega (arith, y, z))
           | inr x ↦ subst (Safe p) q x
         ]
 
@@ -72,20 +74,24 @@ module _ (v : Device) (f : List ℕ) (n w : ℕ) (ok : checkFor v f ≡ Accepted
     going (suc j) h z =
         let before : Runs j = λ i l. h i (omega arith) in
         let now : after j .st .ended ≡ 0 = h j (omega arith) in
-        step-going p kept (after j) (safe j before now) (going j before now) e z
+        step-going p kept (after j) (safe j before now) (going j before now) u z
 
-    module _ (fits : Not9 v e c) where
-      named : Filled v → (j : ℕ) → Named (after j .mem) (p .code (after j .st .pc))
-      named full j = code-named v full (after j .mem) (after-sizes v p e c fits j) f n w ok (after j .st .pc)
+  module _ (e : ℕ) (q : Plant) (fits : Not9 v e q) where
+    abbrev pub upon : ℕ → World
+    upon j = scanAfter v p e q j
 
-      pub sound : (j : ℕ) → Runs j → after j .st .ended ≡ 0 → Sound v p (after j)
-      sound j h z =
-          let s = safe j h z in
-          record { safe = s; powered = powered p kept (after j .st) (s .inside) (going j h z .stand); named = λ full. named full j }
+    named : Filled v → (j : ℕ) → Named (upon j .mem) (p .code (upon j .st .pc))
+    named full j = code-named v full (upon j .mem) (after-sizes v p e q fits j) f n w ok (upon j .st .pc)
 
-      -- TOTAL: so it is before each step that a scan makes
-      pub each-sound : (b : ℕ) (s : Scan) (t : Counted v p e b c s) (j : ℕ) → j < t .steps → Sound v p (after j)
-      each-sound b s t j l = sound j (λ i k. t .before i (omega arith)) (t .before j l)
+    pub sound : (j : ℕ) → ((i : ℕ) → i < j → upon i .st .ended ≡ 0) → upon j .st .ended ≡ 0 → Sound v p (upon j)
+    sound j h z =
+        let u = unitsIn e (q .rest) in
+        let s = safe u (q .mem) j h z in
+        record { safe = s; powered = powered p kept (upon j .st) (s .inside) (going u (q .mem) j h z .stand); named = λ full. named full j }
+
+    -- TOTAL: so it is before each step that a scan makes
+    pub each-sound : (b : ℕ) (s : Scan) (t : Counted v p e b q s) (j : ℕ) → j < t .steps → Sound v p (upon j)
+    each-sound b s t j l = sound j (λ i k. t .before i (omega arith)) (t .before j l)
 
 -- the EC20's bits fill their bytes
 pub filled : Filled ec20
@@ -114,32 +120,32 @@ sample-ok : checkFor ec20 sample ≡ Accepted 12 12
 unfolding computing
 sample-ok = refl
 
-fits : Not9 ec20 0 blank
+fits : Not9 ec20 0 (still blank)
 unfolding computing
-fits = fits-all ec20 0 blank refl
+fits = fits-all ec20 0 (still blank) refl
 
 -- three steps made
-three : (i : ℕ) → i < 3 → afterSteps ec20 (programOf sample) 0 blank i .st .ended ≡ 0
+three : (i : ℕ) → i < 3 → scanAfter ec20 (programOf sample) 0 (still blank) i .st .ended ≡ 0
 unfolding computing afterSteps
 three zero l = refl
 three (suc zero) l = refl
 three (suc (suc zero)) l = refl
 three (suc (suc (suc i))) l = absurd (omega arith)
 
-at-ANB : afterSteps ec20 (programOf sample) 0 blank 3 .st .ended ≡ 0
+at-ANB : scanAfter ec20 (programOf sample) 0 (still blank) 3 .st .ended ≡ 0
 unfolding computing afterSteps
 at-ANB = refl
 
 -- ANB is due: flow is present, and in record order there is an entry on each stack
-pub ANB-sound : Sound ec20 (programOf sample) (afterSteps ec20 (programOf sample) 0 blank 3)
-ANB-sound = sound ec20 sample 12 12 sample-ok 0 blank fits 3 three at-ANB
+pub ANB-sound : Sound ec20 (programOf sample) (scanAfter ec20 (programOf sample) 0 (still blank) 3)
+ANB-sound = sound ec20 sample 12 12 sample-ok 0 (still blank) fits 3 three at-ANB
 
 pub one-entry : (rungAt (programOf sample) 3 .blocks ≡ 1) × (rungAt (programOf sample) 3 .branches ≡ 1)
 unfolding computing rungAt
 one-entry = (refl, refl)
 
 -- CJ goes to the LBL: after nine steps record 10 is due, with flow absent, though in record order flow is present there
-pub at-LBL : (afterSteps ec20 (programOf sample) 0 blank 9 .st .pc ≡ 10) × (afterSteps ec20 (programOf sample) 0 blank 9 .st .flow ≡ 0)
+pub at-LBL : (scanAfter ec20 (programOf sample) 0 (still blank) 9 .st .pc ≡ 10) × (scanAfter ec20 (programOf sample) 0 (still blank) 9 .st .flow ≡ 0)
     × (rungAt (programOf sample) 10 .present ≡ true)
 unfolding computing afterSteps rungAt
 at-LBL = (refl, refl, refl)
@@ -165,7 +171,7 @@ unfolding computing
 last-code = refl
 
 abbrev now : Memory
-now = afterSteps ec20 (programOf last) 0 blank 1 .mem
+now = scanAfter ec20 (programOf last) 0 (still blank) 1 .mem
 
 pub last-named : OneWord 32 now word noOperand group
-last-named = subst (Named now) last-code (code-named ec20 filled now (after-sizes ec20 (programOf last) 0 blank fits 1) last 3 3 last-ok 1)
+last-named = subst (Named now) last-code (code-named ec20 filled now (after-sizes ec20 (programOf last) 0 (still blank) fits 1) last 3 3 last-ok 1)

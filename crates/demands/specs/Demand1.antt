@@ -19,8 +19,8 @@ use Rattle.ec20.specs.Code.{programOf}
 use Rattle.ec20.specs.Devices.{Device, ec20}
 use Rattle.ec20.specs.Exchange.{Exchange, exchanged, exchangeFor}
 use Rattle.ec20.specs.File.{countOf}
-use Rattle.ec20.specs.Memory.{Memory}
 use Rattle.ec20.specs.Move.{Block, Pool, Move, movedFile, moveFor}
+use Rattle.ec20.specs.Plant.{Plant}
 use Rattle.ec20.specs.Scan.{Scan, scanFor}
 use Rattle.ec20.specs.UseMap.{mapFor}
 use Rattle.modbus.specs.declared.Answered.the-variants.{Refused as NotAnswered}
@@ -66,14 +66,14 @@ pub record CheckNumbers (v : Device) (f : List ℕ) (a : Verdict) : Type 0 where
       → (a ≡ Accepted n w)
       ↔ ((n ≡ countOf f) × W-of (programOf f) w × Not1 f × Not2-4 v f × Not5 f × Not6 f × Not7 f × Not8 f)
 
--- The answer and the memory s after a scan of f with e elapsed units and a budget of b on the memory c: "The scan adds 9."
-pub record ScanNumbers (v : Device) (f : List ℕ) (e b : ℕ) (c : Memory) (s : Scan) : Type 0 where
+-- The scan s of f with e elapsed milliseconds and a budget of b on the memory and leftovers q, its answer and what it leaves: "The scan adds 9."
+pub record ScanNumbers (v : Device) (f : List ℕ) (e b : ℕ) (q : Plant) (s : Scan) : Type 0 where
   pub one-to-eight : (m k : ℕ) → m ≤ 8 → (s .answer ≡ NotScanned m k) ↔ (checkFor v f ≡ Refused m k)
-  pub nine : (k : ℕ) → (s .answer ≡ NotScanned 9 k) ↔ ((k ≡ 0) × Accepts v f × Line9 v e c)
+  pub nine : (k : ℕ) → (s .answer ≡ NotScanned 9 k) ↔ ((k ≡ 0) × Accepts v f × Line9 v e q)
   pub no-other : (m k : ℕ) → s .answer ≡ NotScanned m k → (1 ≤ m) × (m ≤ 9)
-  pub unchanged : (m k : ℕ) → s .answer ≡ NotScanned m k → s .mem ≡ c
+  pub unchanged : (m k : ℕ) → s .answer ≡ NotScanned m k → s .plant ≡ q
   -- else it is run: so many steps of the definition (specs/Steps.antt)
-  pub runs : Accepts v f → Not9 v e c → Counted v (programOf f) e b c s
+  pub runs : Accepts v f → Not9 v e q → Counted v (programOf f) e b q s
 
 -- The use map of f, to which no memory is lent: refused, it has "number and record only, every other field 0".
 pub record MapNumbers (v : Device) (f : List ℕ) : Type 0 where
@@ -120,11 +120,11 @@ pub record AnswerNumbers (own : ℕ) (f m : List ℕ) (d : List ℤ) (b : List �
 -- no budget is a scan with one of 200,000 (specs/Budget.antt).
 pub record Demand1 : Type 0 where
   -- "every scan ends"
-  pub ends : (f : List ℕ) (e b : ℕ) (c : Memory) → Ends b (scanFor ec20 f e b c .answer)
+  pub ends : (f : List ℕ) (e b : ℕ) (q : Plant) → Ends b (scanFor ec20 f e b q .answer)
   -- "Every file, memory table, block and pool gets an answer". "Bad input is refused by the numbers 1 to 14 of document 01 (and those that document 02
   -- adds), in their order, each exactly when its line holds; a refusal changes no lent byte or word"
   pub check-numbers : (f : List ℕ) → OneTold (CheckNumbers ec20 f) (checkFor ec20 f)
-  pub scan-numbers : (f : List ℕ) (e b : ℕ) (c : Memory) → OneTold (ScanNumbers ec20 f e b c) (scanFor ec20 f e b c)
+  pub scan-numbers : (f : List ℕ) (e b : ℕ) (q : Plant) → OneTold (ScanNumbers ec20 f e b q) (scanFor ec20 f e b q)
   pub map-numbers : (f : List ℕ) → MapNumbers ec20 f
   pub move-numbers : (f : List ℕ) (b : Block) (l : Pool) → OneTold (MoveNumbers ec20 f b l) (moveFor ec20 f b l)
   pub exchange-numbers : (d : List ℤ) (b : Block) (q : ℕ) → OneTold (ExchangeNumbers ec20 d b q) (exchangeFor ec20 d b q)

@@ -1,7 +1,8 @@
 -- DEMAND 3. "The mover picks the lowest right place, or says 'no place' exactly when there is none. Exchange the two ranges in the D table and
 -- run the moved program: for any memory and any series of inputs, elapsed times and budgets, every scan gives the old answer and the old
 -- memory with the ranges exchanged." It "still speaks of scans with no request between them" (document 02): a request names its registers by their
--- numbers, and after a move these hold other words.
+-- numbers, and after a move these hold other words. And it "holds with leftovers as part of memory": they are not exchanged, and the scans of both
+-- programs leave the same.
 use Prim.Native.Nat.{ℕ, _+_, _*_, _≤_, _<_}
 use mathlib.Core.List.{List, map}
 use mathlib.Core.Logic.{_↔_}
@@ -15,8 +16,9 @@ use Rattle.ec20.specs.Code.{programOf}
 use Rattle.ec20.specs.Devices.{Device}
 use Rattle.ec20.specs.Exchange.{swapped, exchanged, exchangeFor}
 use Rattle.ec20.specs.File.{byteAt, firstOf, countOf}
-use Rattle.ec20.specs.Memory.{Memory, withD}
+use Rattle.ec20.specs.Memory.{withD}
 use Rattle.ec20.specs.Move.{Block, Pool, move, moveFor, movedFile}
+use Rattle.ec20.specs.Plant.{Plant, plant}
 use Rattle.ec20.specs.Registers.{wordAt}
 use Rattle.ec20.specs.Scan.{Scan, scan}
 use Rattle.moving.specs.Rename.{renameProgram}
@@ -27,12 +29,12 @@ use Rattle.demands.specs.Lines.{In, InBlock, Lowest, Line14, Asked}
 abbrev pub OfBytes : List ℕ → Type 0
 OfBytes f = (i : ℕ) → byteAt f i < 256
 
--- the memory with the words of the block b and of the place at q exchanged, and all else as it is; an answer with its memory so
-abbrev pub withExchange : Block → ℕ → Memory → Memory
-withExchange b q c = withD c (exchanged b q (c .d))
+-- the memory with the words of the block b and of the place at q exchanged, and all else as it is, the leftovers too; an answer with its memory so
+abbrev pub withExchange : Block → ℕ → Plant → Plant
+withExchange b q p = plant (withD (p .mem) (exchanged b q (p .mem .d))) (p .rest)
 
 abbrev pub scanExchanged : Block → ℕ → Scan → Scan
-scanExchanged b q s = scan (s .answer) (withExchange b q (s .mem))
+scanExchanged b q s = scan (s .answer) (withExchange b q (s .plant))
 
 -- "Exchange the two ranges in the D table": what that is, word by word, in a table d of as many words as the device has
 pub record Exchanges (v : Device) (b : Block) (q : ℕ) (d : List ℤ) : Type 0 where
@@ -59,7 +61,7 @@ pub record Same (v : Device) (f : List ℕ) (b : Block) (q : ℕ) (g : List ℕ)
   pub exchanges : (d : List ℤ) → length d ≡ v .words → Exchanges v b q d
   -- "for any memory and any series of inputs, elapsed times and budgets, every scan gives the old answer and the old memory with the ranges
   -- exchanged": the inputs are given alike to both
-  pub scans : (c : Memory) (is : List Input) → series v g (withExchange b q c) is ≡ map (scanExchanged b q) (series v f c is)
+  pub scans : (p : Plant) (is : List Input) → series v g (withExchange b q p) is ≡ map (scanExchanged b q) (series v f p is)
 
 -- THE DEMAND, of every file of bytes f, block b and pool l, on a device v: the theorem is `OfBytes f → Demand3 ec20 f b l`.
 pub record Demand3 (v : Device) (f : List ℕ) (b : Block) (l : Pool) : Type 0 where

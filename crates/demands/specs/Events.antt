@@ -2,7 +2,8 @@
 use Prim.Native.Nat.{ℕ}
 use mathlib.Core.List.{List, [], _∷_}
 use Rattle.ec20.specs.Devices.{ec20}
-use Rattle.ec20.specs.Memory.{Memory, withM, withD}
+use Rattle.ec20.specs.Memory.{withM, withD}
+use Rattle.ec20.specs.Plant.{Plant, plant}
 use Rattle.modbus.specs.Answer.{answerOf}
 use Rattle.moving.specs.Series.{Input, scanWith}
 
@@ -11,14 +12,14 @@ pub data Event : Type 0 where
   scans : Input → Event
   asks : ℕ → List ℕ → List ℕ → Event
 
--- the memory that it leaves
-unfoldable pub afterEvent : List ℕ → Memory → Event → Memory
-afterEvent f c (scans i) = scanWith ec20 f c i .mem
-afterEvent f c (asks own g b) =
-    let a = answerOf own g (c .m) (c .d) b in
-    withD (withM c (a .m)) (a .d)
+-- the memory and leftovers that it leaves: a request touches no leftover
+unfoldable pub afterEvent : List ℕ → Plant → Event → Plant
+afterEvent f q (scans i) = scanWith ec20 f q i .plant
+afterEvent f q (asks own g b) =
+    let a = answerOf own g (q .mem .m) (q .mem .d) b in
+    plant (withD (withM (q .mem) (a .m)) (a .d)) (q .rest)
 
--- the memory after all of them, in order
-unfoldable pub afterEvents : List ℕ → Memory → List Event → Memory
-afterEvents f c [] = c
-afterEvents f c (e ∷ rest) = afterEvents f (afterEvent f c e) rest
+-- those after all of them, in order
+unfoldable pub afterEvents : List ℕ → Plant → List Event → Plant
+afterEvents f q [] = q
+afterEvents f q (e ∷ rest) = afterEvents f (afterEvent f q e) rest

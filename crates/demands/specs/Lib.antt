@@ -14,3 +14,5 @@ pub mod Demand2
 pub mod Demand3
 -- The entry without a budget
 pub mod Budget
+-- The time that timers are given
+pub mod Time

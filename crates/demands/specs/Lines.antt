@@ -11,9 +11,9 @@ use Rattle.ec20.specs.declared.Verdict.the-variants.{Accepted}
 use Rattle.ec20.specs.Check.{checkFor}
 use Rattle.ec20.specs.Devices.{Device}
 use Rattle.ec20.specs.File.{countOf}
-use Rattle.ec20.specs.Memory.{Memory}
 use Rattle.ec20.specs.Move.{Block, Pool}
 use Rattle.ec20.specs.Operands.{inD, startOf, extentOf}
+use Rattle.ec20.specs.Plant.{Plant, leftoverOf}
 use Rattle.refusals.specs.First.{First, Never}
 use Rattle.refusals.specs.Records.{Operand-at}
 use Rattle.refusals.specs.Table.{recordAt}
@@ -42,19 +42,24 @@ Accepts v f = (n w : ℕ) × (checkFor v f ≡ Accepted n w)
 
 -- ---- the scan
 
--- 9: "memory table of wrong size, or elapsed out of range": of each kind as many as the device has, bits packed eight to a byte
-pub data Line9 (v : Device) (e : ℕ) (c : Memory) : Type 0 where
-  size-x : (length (c .x) ≡ v .x / 8 → ⊥) → Line9 v e c
-  size-y : (length (c .y) ≡ v .y / 8 → ⊥) → Line9 v e c
-  size-m : (length (c .m) ≡ v .m / 8 → ⊥) → Line9 v e c
-  size-sm : (length (c .sm) ≡ v .sm / 8 → ⊥) → Line9 v e c
-  size-t : (length (c .t) ≡ v .t / 8 → ⊥) → Line9 v e c
-  size-d : (length (c .d) ≡ v .words → ⊥) → Line9 v e c
-  size-tv : (length (c .tv) ≡ v .t → ⊥) → Line9 v e c
-  elapsed : 32767 < e → Line9 v e c
+-- 9: "memory table of wrong size, or elapsed out of range": of each kind as many as the device has, bits packed eight to a byte. Document 02, (iv):
+-- "A scan is now given elapsed milliseconds, 0 to 10,000, else refusal 9. The memory gains two leftovers, 0 to 9 ms and 0 to 99 ms, carried from scan
+-- to scan; a table with others is 9."
+pub data Line9 (v : Device) (e : ℕ) (q : Plant) : Type 0 where
+  size-x : (length (q .mem .x) ≡ v .x / 8 → ⊥) → Line9 v e q
+  size-y : (length (q .mem .y) ≡ v .y / 8 → ⊥) → Line9 v e q
+  size-m : (length (q .mem .m) ≡ v .m / 8 → ⊥) → Line9 v e q
+  size-sm : (length (q .mem .sm) ≡ v .sm / 8 → ⊥) → Line9 v e q
+  size-t : (length (q .mem .t) ≡ v .t / 8 → ⊥) → Line9 v e q
+  size-d : (length (q .mem .d) ≡ v .words → ⊥) → Line9 v e q
+  size-tv : (length (q .mem .tv) ≡ v .t → ⊥) → Line9 v e q
+  size-rest : (length (q .rest) ≡ 2 → ⊥) → Line9 v e q
+  tens : 9 < leftoverOf 10 (q .rest) → Line9 v e q
+  hundreds : 99 < leftoverOf 100 (q .rest) → Line9 v e q
+  elapsed : 10000 < e → Line9 v e q
 
-abbrev pub Not9 : Device → ℕ → Memory → Type 0
-Not9 v e c = Line9 v e c → ⊥
+abbrev pub Not9 : Device → ℕ → Plant → Type 0
+Not9 v e q = Line9 v e q → ⊥
 
 -- ---- the move
 

@@ -23,12 +23,13 @@ pub mod Rung
 pub mod Loops
 pub mod Labels
 pub mod Check
--- Memory, with load and store of operands; word instructions; power flow; timers; a step; a scan (9)
+-- Memory, with load and store of operands; word instructions; power flow; timers; a step; the leftovers of the timers; a scan (9)
 pub mod Memory
 pub mod Words
 pub mod Flow
 pub mod Timers
 pub mod Step
+pub mod Plant
 pub mod Scan
 -- The use map; the move (10 to 14); the exchange
 pub mod UseMap

@@ -140,6 +140,13 @@ pub struct Outcome {
     pub below: usize,
 }
 
+// What a scan gives to its timers: so many whole units of 100 ms to those that count in them, of 10 ms, and of 1 ms.
+pub struct Units {
+    pub hundreds: usize,
+    pub tens: usize,
+    pub ones: usize,
+}
+
 // What the running machine holds beside the tables. pc: the record due. flow: 0 absent, 1 off, 2 on. action: 1 if the last
 // instruction other than NOP was an action. blocks, branches: the stacks, the top in the lowest bit. depth: the loops open. ended: 1
 // after END. error, at: the first error and its record.

@@ -13,13 +13,14 @@ use Rattle.ec20.specs.declared.Exchanged.the-variants.{Done, Refused as NotExch
 use Rattle.ec20.specs.declared.Mapped.{Mapped}
 use Rattle.ec20.specs.File.{framed}
 use Rattle.ec20.specs.Check.{checkOf}
+use Rattle.ec20.specs.Plant.{Plant, plant}
 use Rattle.ec20.specs.Scan.{scan, scanOf}
 use Rattle.ec20.specs.Memory.{Memory, memory, withD, withSM, withM}
 use Rattle.ec20.specs.UseMap.{useMapOf}
 use Rattle.ec20.specs.Move.{block, pool, move, moveOf}
 use Rattle.ec20.specs.Exchange.{exchangeOf}
 use Rattle.ec20.proofs.Computing.{computing}
-use Rattle.ec20.proofs.Files.{operand, none, K, K-, X, Y, M, SM, T, D, L, KM, KX, KY, r0, r1, r2, r3, le16, le32, file, trailer, alone, blank}
+use Rattle.ec20.proofs.Files.{operand, none, K, K-, X, Y, M, SM, T, D, L, KM, KX, KY, r0, r1, r2, r3, le16, le32, file, trailer, alone, blank, still}
 
 -- the shortest program, END alone: 28 bytes
 abbrev shortest : List ℕ
@@ -298,11 +299,15 @@ prog = alone (r2 48 (D 100) (D 104))
 abbrev tables : ℕ → ℕ → ℕ → ℕ → ℕ → ℕ → Memory
 tables x y m sm t tv = memory (replicate x 0) (replicate y 0) (replicate m 0) (replicate sm 0) (replicate t 0) (replicate 8000 (pos 0)) (replicate tv (pos 0))
 
+-- all zeros, with these leftovers
+abbrev resting : List ℕ → Plant
+resting r = plant blank r
+
 pub record Nine-to-fourteen : Type 0 where
-  pub small-table : scanOf shortest 0 9 (withD blank (replicate 7999 (pos 0))) ≡ scan (NotScanned 9 0) (withD blank (replicate 7999 (pos 0)))
-  pub elapsed : scanOf shortest 32768 9 blank ≡ scan (NotScanned 9 0) blank
+  pub small-table : scanOf shortest 0 9 (still (withD blank (replicate 7999 (pos 0)))) ≡ scan (NotScanned 9 0) (still (withD blank (replicate 7999 (pos 0))))
+  pub elapsed : scanOf shortest 10001 9 (still blank) ≡ scan (NotScanned 9 0) (still blank)
   -- 1 goes before 9
-  pub before-nine : scanOf (replicate 7 0) 32768 9 blank ≡ scan (NotScanned 1 0) blank
+  pub before-nine : scanOf (replicate 7 0) 10001 9 (still blank) ≡ scan (NotScanned 1 0) (still blank)
   pub empty : moveOf prog (block 100 0) (pool 200 300) ≡ move (NotMoved 10 0) prog
   pub outside : moveOf prog (block 7999 2) (pool 200 300) ≡ move (NotMoved 10 0) prog
   pub pool-back : moveOf prog (block 100 2) (pool 300 200) ≡ move (NotMoved 11 0) prog
@@ -317,15 +322,34 @@ pub record Nine-to-fourteen : Type 0 where
   pub exchange-block : exchangeOf (replicate 8000 (pos 0)) (block 100 0) 100 .answer ≡ NotExchanged 10 0
   pub exchange-work : exchangeOf (replicate 8000 (pos 0)) (block 7900 1) 100 .answer ≡ NotExchanged 12 0
   pub exchange-place : exchangeOf (replicate 8000 (pos 0)) (block 100 10) 109 .answer ≡ NotExchanged 14 0
-  pub elapsed-most : scanOf shortest 32767 1 blank ≡ scan (Ended (record { steps = 1; stop = 0; error = 0; at = 0 })) (withSM blank (1 ∷ replicate 31 0))
-  pub x-table : scanOf shortest 0 9 (tables 31 32 250 32 32 256) .answer ≡ NotScanned 9 0
-  pub y-table : scanOf shortest 0 9 (tables 32 33 250 32 32 256) .answer ≡ NotScanned 9 0
-  pub m-table : scanOf shortest 0 9 (tables 32 32 249 32 32 256) .answer ≡ NotScanned 9 0
-  pub sm-table : scanOf shortest 0 9 (tables 32 32 250 0 32 256) .answer ≡ NotScanned 9 0
-  pub t-table : scanOf shortest 0 9 (tables 32 32 250 32 31 256) .answer ≡ NotScanned 9 0
-  pub tv-table : scanOf shortest 0 9 (tables 32 32 250 32 32 257) .answer ≡ NotScanned 9 0
+  pub elapsed-most : scanOf shortest 10000 1 (still blank) ≡ scan (Ended (record { steps = 1; stop = 0; error = 0; at = 0 })) (still (withSM blank (1 ∷ replicate 31 0)))
+  pub x-table : scanOf shortest 0 9 (still (tables 31 32 250 32 32 256)) .answer ≡ NotScanned 9 0
+  pub y-table : scanOf shortest 0 9 (still (tables 32 33 250 32 32 256)) .answer ≡ NotScanned 9 0
+  pub m-table : scanOf shortest 0 9 (still (tables 32 32 249 32 32 256)) .answer ≡ NotScanned 9 0
+  pub sm-table : scanOf shortest 0 9 (still (tables 32 32 250 0 32 256)) .answer ≡ NotScanned 9 0
+  pub t-table : scanOf shortest 0 9 (still (tables 32 32 250 32 31 256)) .answer ≡ NotScanned 9 0
+  pub tv-table : scanOf shortest 0 9 (still (tables 32 32 250 32 32 257)) .answer ≡ NotScanned 9 0
+  -- "two leftovers, 0 to 9 ms and 0 to 99 ms ..; a table with others is 9": that of the 10 ms timers is the first
+  pub leftovers-most : scanOf shortest 0 1 (resting (9 ∷ 99 ∷ [])) ≡ scan (Ended (record { steps = 1; stop = 0; error = 0; at = 0 })) (plant (withSM blank (1 ∷ replicate 31 0)) (9 ∷ 99 ∷ []))
+  pub tens-most : scanOf shortest 0 1 (resting (9 ∷ 0 ∷ [])) .answer ≡ Ended (record { steps = 1; stop = 0; error = 0; at = 0 })
+  pub tens-more : scanOf shortest 0 1 (resting (10 ∷ 0 ∷ [])) ≡ scan (NotScanned 9 0) (resting (10 ∷ 0 ∷ []))
+  pub hundreds-most : scanOf shortest 0 1 (resting (0 ∷ 99 ∷ [])) .answer ≡ Ended (record { steps = 1; stop = 0; error = 0; at = 0 })
+  pub hundreds-more : scanOf shortest 0 1 (resting (0 ∷ 100 ∷ [])) ≡ scan (NotScanned 9 0) (resting (0 ∷ 100 ∷ []))
+  pub leftovers-turned : scanOf shortest 0 1 (resting (99 ∷ 9 ∷ [])) ≡ scan (NotScanned 9 0) (resting (99 ∷ 9 ∷ []))
+  pub no-leftovers : scanOf shortest 0 1 (resting []) ≡ scan (NotScanned 9 0) (resting [])
+  pub one-leftover : scanOf shortest 0 1 (resting (0 ∷ [])) ≡ scan (NotScanned 9 0) (resting (0 ∷ []))
+  pub three-leftovers : scanOf shortest 0 1 (resting (0 ∷ 0 ∷ 0 ∷ [])) ≡ scan (NotScanned 9 0) (resting (0 ∷ 0 ∷ 0 ∷ []))
+  -- 1 to 8 go before it
+  pub one-before-leftovers : scanOf (replicate 7 0) 0 9 (resting (10 ∷ 0 ∷ [])) ≡ scan (NotScanned 1 0) (resting (10 ∷ 0 ∷ []))
+  pub two-before-leftovers : scanOf (file (r0 24 ∷ end ∷ [])) 0 9 (resting (0 ∷ 100 ∷ [])) ≡ scan (NotScanned 2 0) (resting (0 ∷ 100 ∷ []))
+  pub three-before-leftovers : scanOf (file (r1 0 (K 0) ∷ end ∷ [])) 0 9 (resting (99 ∷ 9 ∷ [])) ≡ scan (NotScanned 3 0) (resting (99 ∷ 9 ∷ []))
+  pub four-before-leftovers : scanOf (alone (r1 37 (D 7900))) 0 9 (resting []) ≡ scan (NotScanned 4 1) (resting [])
+  pub five-before-leftovers : scanOf (file (out ∷ end ∷ [])) 0 9 (resting (0 ∷ [])) ≡ scan (NotScanned 5 0) (resting (0 ∷ []))
+  pub six-before-leftovers : scanOf (file (end ∷ end ∷ [])) 0 9 (resting (10 ∷ 100 ∷ [])) ≡ scan (NotScanned 6 0) (resting (10 ∷ 100 ∷ []))
+  pub seven-before-leftovers : scanOf (file (ld ∷ cj ∷ end ∷ [])) 0 9 (resting (10 ∷ 0 ∷ [])) ≡ scan (NotScanned 7 1) (resting (10 ∷ 0 ∷ []))
+  pub eight-before-leftovers : scanOf (file (most ∷ most ∷ next ∷ next ∷ end ∷ [])) 0 9 (resting (0 ∷ 100 ∷ [])) ≡ scan (NotScanned 8 0) (resting (0 ∷ 100 ∷ []))
   -- 8 goes before 9; the mover and the map refuse by 1 to 8 too
-  pub eight-before-nine : scanOf (file (most ∷ most ∷ next ∷ next ∷ end ∷ [])) 32768 9 blank ≡ scan (NotScanned 8 0) blank
+  pub eight-before-nine : scanOf (file (most ∷ most ∷ next ∷ next ∷ end ∷ [])) 10001 9 (still blank) ≡ scan (NotScanned 8 0) (still blank)
   pub five-before-ten : moveOf (file (out ∷ end ∷ [])) (block 0 0) (pool 1 0) ≡ move (NotMoved 5 0) (file (out ∷ end ∷ []))
   pub no-map : useMapOf (file (ld ∷ r1 37 (D 7900) ∷ end ∷ [])) ≡ record { number = 4; at = 1; read = replicate 1000 0; written = replicate 1000 0 }
   -- numbers as large as the entry takes
@@ -358,4 +382,4 @@ pub record Nine-to-fourteen : Type 0 where
 nine-to-fourteen : Nine-to-fourteen
 unfolding computing
 nine-to-fourteen =
-    record { small-table = refl; elapsed = refl; before-nine = refl; empty = refl; outside = refl; pool-back = refl; pool-past = refl; in-work = refl; split = refl; no-pool = refl; work-only = refl; ordered = refl; exchange-size = refl; exchange-block = refl; exchange-work = refl; exchange-place = refl; elapsed-most = refl; x-table = refl; y-table = refl; m-table = refl; sm-table = refl; t-table = refl; tv-table = refl; eight-before-nine = refl; five-before-ten = refl; no-map = refl; far-block = refl; far-pool = refl; eleven-before-twelve = refl; twelve-before-thirteen = refl; thirteen-before-fourteen = refl; first-split = refl; around = refl; over-block = refl; over-block-only = refl; below-work = refl; in-use = refl; in-use-pair = refl; too-long-for-pool = refl; exchange-ten = refl; exchange-twelve = refl; exchange-past = refl; exchange-into-work = refl; exchange-below-work = refl; exchange-below = refl; exchange-beside = refl; exchange-kept = refl }
+    record { small-table = refl; elapsed = refl; before-nine = refl; empty = refl; outside = refl; pool-back = refl; pool-past = refl; in-work = refl; split = refl; no-pool = refl; work-only = refl; ordered = refl; exchange-size = refl; exchange-block = refl; exchange-work = refl; exchange-place = refl; elapsed-most = refl; x-table = refl; y-table = refl; m-table = refl; sm-table = refl; t-table = refl; tv-table = refl; leftovers-most = refl; tens-most = refl; tens-more = refl; hundreds-most = refl; hundreds-more = refl; leftovers-turned = refl; no-leftovers = refl; one-leftover = refl; three-leftovers = refl; one-before-leftovers = refl; two-before-leftovers = refl; three-before-leftovers = refl; four-before-leftovers = refl; five-before-leftovers = refl; six-before-leftovers = refl; seven-before-leftovers = refl; eight-before-leftovers = refl; eight-before-nine = refl; five-before-ten = refl; no-map = refl; far-block = refl; far-pool = refl; eleven-before-twelve = refl; twelve-before-thirteen = refl; thirteen-before-fourteen = refl; first-split = refl; around = refl; over-block = refl; over-block-only = refl; below-work = refl; in-use = refl; in-use-pair = refl; too-long-for-pool = refl; exchange-ten = refl; exchange-twelve = refl; exchange-past = refl; exchange-into-work = refl; exchange-below-work = refl; exchange-below = refl; exchange-beside = refl; exchange-kept = refl }

@@ -21,33 +21,38 @@ use Rattle.ec20.specs.Check.{checkOf}
 use Rattle.ec20.specs.Code.{Program, programIn, programOf}
 use Rattle.ec20.specs.Devices.{ec20}
 use Rattle.ec20.specs.File.{Records, framed, frameOf, byteAt, recordFrom, recordsFrom, recordsOf}
-use Rattle.ec20.specs.Memory.{Memory, sized}
+use Rattle.ec20.specs.Memory.{sized}
 use Rattle.ec20.specs.Operands.{isKnown, faultIn, firstBad}
-use Rattle.ec20.specs.Scan.{Scan, scan, runScan, fitting, scanFor, scanOf}
+use Rattle.ec20.specs.Plant.{Plant, leftoversFit, unitsIn, restAfter}
+use Rattle.ec20.specs.Scan.{Ran, scan, leaving, runScan, timedScan, fitting, scanFor, scanOf}
 use Rattle.ec20.specs.declared.Frame.{Frame}
 use Rattle.ec20.specs.declared.Frame.the-variants.{Whole}
 use Rattle.ec20.specs.declared.Scanned.the-variants.{Refused}
+use Rattle.ec20.specs.declared.Units.{Units}
 use Rattle.ec20.specs.declared.Verdict.{Verdict}
 use Rattle.ec20.specs.declared.Verdict.the-variants.{Accepted, Refused as Unfit}
 use Rattle.engine.specs.Made.{Fit, Made}
 use Rattle.engine.specs.declared.Ready.{Ready}
 
 -- a scan of a file that was made ready
-module _ {f : List ℕ} {p : Ready} (made : Made f p) (e b : ℕ) (c : Memory) where
+module _ {f : List ℕ} {p : Ready} (made : Made f p) (e b : ℕ) (q : Plant) where
   -- refused by the check
-  pub unfit-scan : p .accepted ≡ false → scan (Refused (p .number) (p .at)) c ≡ scanOf f e b c
+  pub unfit-scan : p .accepted ≡ false → scan (Refused (p .number) (p .at)) q ≡ scanOf f e b q
   unfolding scanOf scanFor checkOf
   unfit-scan h = rw (made .unfit h) refl
 
-  -- an accepted one, by sizes and elapsed units
-  pub nine : p .accepted ≡ true → {s : Bool} → s ≡ sized ec20 c → (s && leb e 32767) ≡ false → scan (Refused 9 0) c ≡ scanOf f e b c
+  -- an accepted one, by sizes, leftovers and elapsed milliseconds
+  pub nine : p .accepted ≡ true → {s l : Bool} → s ≡ sized ec20 (q .mem) → l ≡ leftoversFit (q .rest) → (s && l && leb e 10000) ≡ false
+      → scan (Refused 9 0) q ≡ scanOf f e b q
   unfolding scanOf scanFor checkOf fitting
-  nine a g h = rw (made .fit a .accepted .2, sym g, h) refl
+  nine a g k h = rw (made .fit a .accepted .2, sym g, sym k, h) refl
 
-  pub fits : (a : p .accepted ≡ true) {s : Bool} {o : Scan} → s ≡ sized ec20 c → (s && leb e 32767) ≡ true
-      → o ≡ runScan ec20 (programIn (recordsFrom f (p .first) (p .count))) e b c → o ≡ scanOf f e b c
-  unfolding scanOf scanFor checkOf fitting
-  fits a g h q = q ∙ rw (made .fit a .program, made .fit a .accepted .2, sym g, h) refl
+  -- what is run has the units, and what is left the leftovers, of so many milliseconds
+  pub fits : (a : p .accepted ≡ true) {s l : Bool} {o : Ran} {u : Units} {rest : List ℕ} → s ≡ sized ec20 (q .mem) → l ≡ leftoversFit (q .rest)
+      → (s && l && leb e 10000) ≡ true → u ≡ unitsIn e (q .rest) → rest ≡ restAfter e (q .rest)
+      → o ≡ runScan ec20 (programIn (recordsFrom f (p .first) (p .count))) u b (q .mem) → leaving rest o ≡ scanOf f e b q
+  unfolding scanOf scanFor checkOf fitting timedScan
+  fits a g k h x y o = rw (o, x, y, made .fit a .program, made .fit a .accepted .2, sym g, sym k, h) refl
 
 -- a whole frame names the file's records
 pub whole-program : (f : List ℕ) {x : Frame} {first count : ℕ} → framed f ≡ true → x ≡ frameOf f → x ≡ Whole first count → programIn (recordsFrom f first count) ≡ programOf f

@@ -1,6 +1,7 @@
 // A scan: the file is checked and made ready, then its program runs over the lent memory. Who scans one file often makes it ready once.
 ghost use Rattle.ec20.specs.Devices.{ec20};
 ghost use Rattle.ec20.specs.Memory.{memory, sized};
+ghost use Rattle.ec20.specs.Plant.{plant};
 ghost use Rattle.ec20.specs.Scan.{scan, scanOf, plainScan};
 ghost use Rattle.engine.specs.Made.{Made, Goes};
 ghost use mathlib.Core.Bool.{true, false};
@@ -86,8 +87,8 @@ pub fn look_up(f: &[u8], p: Ready) -> [usize; 2000]
     [0usize; 2000]
 }
 
-// A scan of a file that was made ready, over the lent memory, with elapsed units and a budget of steps: what a scan of the file is, with nothing
-// checked or looked up again. SM0 is turned on first. A refused call changes nothing.
+// A scan of a file that was made ready, over the lent memory and leftovers, with elapsed milliseconds and a budget of steps: what a scan of the file is,
+// with nothing checked or looked up again. The leftovers are set and SM0 is turned on first. A refused call changes nothing.
 pub fn scan_ready(
     p: Ready,
     goes: &[usize; 2000],
@@ -99,17 +100,19 @@ pub fn scan_ready(
     t: &mut [u8],
     d: &mut [i16],
     tv: &mut [i16],
+    rest: &mut [u8],
     elapsed: u32,
     budget: u32,
 ) -> Scanned
     requires { ⌜ Made (now f) p ⌝ }
     requires { ⌜ Goes (now f) p (now goes) ⌝ }
-    ensures { λ r. ⌜ scan r (memory (now (x .entry)) (now (y .exit)) (now (m .exit)) (now (sm .exit)) (now (t .exit)) (now (d .exit)) (now (tv .exit))) ≡ scanOf (now (f .entry)) elapsed budget (memory (now (x .entry)) (now (y .entry)) (now (m .entry)) (now (sm .entry)) (now (t .entry)) (now (d .entry)) (now (tv .entry))) ⌝ }
+    ensures { λ r. ⌜ scan r (plant (memory (now (x .entry)) (now (y .exit)) (now (m .exit)) (now (sm .exit)) (now (t .exit)) (now (d .exit)) (now (tv .exit))) (now (rest .exit))) ≡ scanOf (now (f .entry)) elapsed budget (plant (memory (now (x .entry)) (now (y .entry)) (now (m .entry)) (now (sm .entry)) (now (t .entry)) (now (d .entry)) (now (tv .entry))) (now (rest .entry))) ⌝ }
 {
     if p.accepted {
         let e = elapsed as usize;
-        if sizes_fit(x, y, m, sm, t, d, tv) & (e <= 32767) {
+        if sizes_fit(x, y, m, sm, t, d, tv) & leftovers::fit(rest) & (e <= 10000) {
             let rows = instructions::table();
+            let u = leftovers::share(rest, e);
             bits::put_bit(sm, 0, 1);
             let n = budget as usize;
             return runs::run(
@@ -118,7 +121,7 @@ pub fn scan_ready(
                 p.first,
                 p.count,
                 goes,
-                e,
+                u,
                 n,
                 x,
                 y,
@@ -140,7 +143,7 @@ pub fn scan_ready(
     }
 }
 
-// A scan of a file over the lent memory, with elapsed units and a budget of steps. A refused call changes nothing.
+// A scan of a file over the lent memory and leftovers, with elapsed milliseconds and a budget of steps. A refused call changes nothing.
 pub fn scan_file(
     f: &[u8],
     x: &[u8],
@@ -150,14 +153,15 @@ pub fn scan_file(
     t: &mut [u8],
     d: &mut [i16],
     tv: &mut [i16],
+    rest: &mut [u8],
     elapsed: u32,
     budget: u32,
 ) -> Scanned
-    ensures { λ r. ⌜ scan r (memory (now (x .entry)) (now (y .exit)) (now (m .exit)) (now (sm .exit)) (now (t .exit)) (now (d .exit)) (now (tv .exit))) ≡ scanOf (now (f .entry)) elapsed budget (memory (now (x .entry)) (now (y .entry)) (now (m .entry)) (now (sm .entry)) (now (t .entry)) (now (d .entry)) (now (tv .entry))) ⌝ }
+    ensures { λ r. ⌜ scan r (plant (memory (now (x .entry)) (now (y .exit)) (now (m .exit)) (now (sm .exit)) (now (t .exit)) (now (d .exit)) (now (tv .exit))) (now (rest .exit))) ≡ scanOf (now (f .entry)) elapsed budget (plant (memory (now (x .entry)) (now (y .entry)) (now (m .entry)) (now (sm .entry)) (now (t .entry)) (now (d .entry)) (now (tv .entry))) (now (rest .entry))) ⌝ }
 {
     let p = make_ready(f);
     let goes = look_up(f, p);
-    scan_ready(p, &goes, f, x, y, m, sm, t, d, tv, elapsed, budget)
+    scan_ready(p, &goes, f, x, y, m, sm, t, d, tv, rest, elapsed, budget)
 }
 
 // The scan that takes no budget uses 200,000 steps.
@@ -170,9 +174,10 @@ pub fn scan_unbudgeted(
     t: &mut [u8],
     d: &mut [i16],
     tv: &mut [i16],
+    rest: &mut [u8],
     elapsed: u32,
 ) -> Scanned
-    ensures { λ r. ⌜ scan r (memory (now (x .entry)) (now (y .exit)) (now (m .exit)) (now (sm .exit)) (now (t .exit)) (now (d .exit)) (now (tv .exit))) ≡ plainScan (now (f .entry)) elapsed (memory (now (x .entry)) (now (y .entry)) (now (m .entry)) (now (sm .entry)) (now (t .entry)) (now (d .entry)) (now (tv .entry))) ⌝ }
+    ensures { λ r. ⌜ scan r (plant (memory (now (x .entry)) (now (y .exit)) (now (m .exit)) (now (sm .exit)) (now (t .exit)) (now (d .exit)) (now (tv .exit))) (now (rest .exit))) ≡ plainScan (now (f .entry)) elapsed (plant (memory (now (x .entry)) (now (y .entry)) (now (m .entry)) (now (sm .entry)) (now (t .entry)) (now (d .entry)) (now (tv .entry))) (now (rest .entry))) ⌝ }
 {
-    scan_file(f, x, y, m, sm, t, d, tv, elapsed, DEFAULT_BUDGET)
+    scan_file(f, x, y, m, sm, t, d, tv, rest, elapsed, DEFAULT_BUDGET)
 }

@@ -15,7 +15,7 @@ use telling::report;
 fn tell(
     path: &[u8],
     before: &[u8],
-    image: &[u8; 16890],
+    image: &[u8; 16892],
     reply: &[u8],
     n: usize,
     out: i32,
@@ -36,7 +36,7 @@ fn run_over(
     call: &[u8],
     station: u32,
     before: &[u8],
-    image: &mut [u8; 16890],
+    image: &mut [u8; 16892],
     out: i32,
     err: i32,
 ) -> Outcome {
@@ -50,7 +50,9 @@ fn run_over(
     let mut reply = io::buffer();
     match answers::in_image(image, before.len(), station, &frame[..n], &mut reply) {
         Answered::Refused { number, record } => {
-            report::refused_memory(path, number, record, out, err)
+            let o = report::refused_memory(path, number, record, out, err);
+            report::of_before(number, before.len(), err);
+            o
         }
         Answered::Silent => tell(path, before, image, &reply, 0, out, err),
         Answered::Reply { length } => tell(path, before, image, &reply, length, out, err),

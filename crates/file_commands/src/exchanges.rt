@@ -10,12 +10,13 @@ use memories::exchanges::Way;
 use memories::tables;
 use telling::report;
 
-// The answer is told once the memory file is replaced.
+// The answer is told once the memory file, of so many bytes, is replaced.
 fn tell(
     path: &[u8],
     answer: Exchanged,
     w: Way,
-    image: &[u8; 16890],
+    image: &[u8; 16892],
+    size: usize,
     out: i32,
     err: i32,
 ) -> Outcome {
@@ -34,7 +35,9 @@ fn tell(
             }
         }
         Exchanged::Refused { number, record } => {
-            report::refused_memory(path, number, record, out, err)
+            let o = report::refused_memory(path, number, record, out, err);
+            report::of_before(number, size, err);
+            o
         }
     }
 }
@@ -48,7 +51,7 @@ fn run_asked(path: &[u8], w: Way, out: i32, err: i32) -> Outcome {
     let mut image = tables::image();
     tables::start(&memory, &mut image);
     let answer = exchanges::in_image(&mut image, loaded.n, w);
-    tell(path, answer, w, &image, out, err)
+    tell(path, answer, w, &image, loaded.n, out, err)
 }
 
 pub fn run(call: &[u8], out: i32, err: i32) -> Outcome {

@@ -1,5 +1,6 @@
 // The scan, with a budget of steps and without.
 ghost use Rattle.ec20.specs.Memory.{memory};
+ghost use Rattle.ec20.specs.Plant.{plant};
 ghost use Rattle.ec20.specs.Scan.{scanOf, plainScan};
 ghost use Rattle.host.specs.Seven.{sevenOf};
 ghost use mathlib.Core.Path.{_≡_};
@@ -17,7 +18,7 @@ fn seven(s: Scanned) -> [usize; 7]
     }
 }
 
-// The scan of the file f over the tables; told: the seven numbers.
+// The scan of the file f over the tables and the leftovers; told: the seven numbers.
 #[no_mangle]
 pub extern "C" fn ninhalto_scan(
     f: &[u8],
@@ -28,14 +29,15 @@ pub extern "C" fn ninhalto_scan(
     t: &mut [u8],
     d: &mut [i16],
     tv: &mut [i16],
+    rest: &mut [u8],
     elapsed: u32,
     budget: u32,
     told: &mut [usize; 7],
 )
-    ensures { λ _. ⌜ memory (now (x .entry)) (now (y .exit)) (now (m .exit)) (now (sm .exit)) (now (t .exit)) (now (d .exit)) (now (tv .exit)) ≡ scanOf (now (f .entry)) elapsed budget (memory (now (x .entry)) (now (y .entry)) (now (m .entry)) (now (sm .entry)) (now (t .entry)) (now (d .entry)) (now (tv .entry))) .mem ⌝ }
-    ensures { λ _. ⌜ now (told .exit) ≡ sevenOf (scanOf (now (f .entry)) elapsed budget (memory (now (x .entry)) (now (y .entry)) (now (m .entry)) (now (sm .entry)) (now (t .entry)) (now (d .entry)) (now (tv .entry))) .answer) ⌝ }
+    ensures { λ _. ⌜ plant (memory (now (x .entry)) (now (y .exit)) (now (m .exit)) (now (sm .exit)) (now (t .exit)) (now (d .exit)) (now (tv .exit))) (now (rest .exit)) ≡ scanOf (now (f .entry)) elapsed budget (plant (memory (now (x .entry)) (now (y .entry)) (now (m .entry)) (now (sm .entry)) (now (t .entry)) (now (d .entry)) (now (tv .entry))) (now (rest .entry))) .plant ⌝ }
+    ensures { λ _. ⌜ now (told .exit) ≡ sevenOf (scanOf (now (f .entry)) elapsed budget (plant (memory (now (x .entry)) (now (y .entry)) (now (m .entry)) (now (sm .entry)) (now (t .entry)) (now (d .entry)) (now (tv .entry))) (now (rest .entry))) .answer) ⌝ }
 {
-    *told = seven(engine::scan_file(f, x, y, m, sm, t, d, tv, elapsed, budget));
+    *told = seven(engine::scan_file(f, x, y, m, sm, t, d, tv, rest, elapsed, budget));
 }
 
 // The entry that takes no budget: 200,000 steps.
@@ -49,11 +51,12 @@ pub extern "C" fn ninhalto_scan_unbudgeted(
     t: &mut [u8],
     d: &mut [i16],
     tv: &mut [i16],
+    rest: &mut [u8],
     elapsed: u32,
     told: &mut [usize; 7],
 )
-    ensures { λ _. ⌜ memory (now (x .entry)) (now (y .exit)) (now (m .exit)) (now (sm .exit)) (now (t .exit)) (now (d .exit)) (now (tv .exit)) ≡ plainScan (now (f .entry)) elapsed (memory (now (x .entry)) (now (y .entry)) (now (m .entry)) (now (sm .entry)) (now (t .entry)) (now (d .entry)) (now (tv .entry))) .mem ⌝ }
-    ensures { λ _. ⌜ now (told .exit) ≡ sevenOf (plainScan (now (f .entry)) elapsed (memory (now (x .entry)) (now (y .entry)) (now (m .entry)) (now (sm .entry)) (now (t .entry)) (now (d .entry)) (now (tv .entry))) .answer) ⌝ }
+    ensures { λ _. ⌜ plant (memory (now (x .entry)) (now (y .exit)) (now (m .exit)) (now (sm .exit)) (now (t .exit)) (now (d .exit)) (now (tv .exit))) (now (rest .exit)) ≡ plainScan (now (f .entry)) elapsed (plant (memory (now (x .entry)) (now (y .entry)) (now (m .entry)) (now (sm .entry)) (now (t .entry)) (now (d .entry)) (now (tv .entry))) (now (rest .entry))) .plant ⌝ }
+    ensures { λ _. ⌜ now (told .exit) ≡ sevenOf (plainScan (now (f .entry)) elapsed (plant (memory (now (x .entry)) (now (y .entry)) (now (m .entry)) (now (sm .entry)) (now (t .entry)) (now (d .entry)) (now (tv .entry))) (now (rest .entry))) .answer) ⌝ }
 {
-    *told = seven(engine::scan_unbudgeted(f, x, y, m, sm, t, d, tv, elapsed));
+    *told = seven(engine::scan_unbudgeted(f, x, y, m, sm, t, d, tv, rest, elapsed));
 }

@@ -1,4 +1,4 @@
--- Where each table stands in a memory file, and words as bytes. Assumes nothing.
+-- Where each table and the leftovers stand in a memory file, and words as bytes. Assumes nothing.
 use Prim.Native.Nat.{ℕ, _+_, _-_, _*_, _/_, _%_, _<_, _≤_}
 use mathlib.Core.List.{List}
 use mathlib.Core.Path.{_≡_, refl, ap, subst, _∙_}
@@ -11,8 +11,8 @@ use lib.Seq.{length-take-le, getD-take, getD-drop, ext-getD}
 use Rattle.ec20.proofs.MovedLaws.{getD-from, length-from}
 use Rattle.ec20.specs.Basics.{list}
 use Rattle.ec20.specs.File.{byteAt, u16At}
-use Rattle.ec20.specs.Memory.{Memory}
 use Rattle.ec20.specs.Numbers.{low, signed, wrap}
+use Rattle.ec20.specs.Plant.{Plant}
 use Rattle.ec20.specs.Registers.{wordAt}
 use Rattle.ints.proofs.TwosLaws.{low-signed, wrap-fits}
 use Rattle.image.specs.Image.{OfBytes, OfWords, wordIn, wordsOf, byteOf, part, bitByte, imageByte}
@@ -32,54 +32,61 @@ list-at z n f i h = let e : 0 + i ≡ i = omega arith in getD-from f 0 n i z h �
 
 -- ---- the bytes of each table
 
-module _ (c : Memory) (i : ℕ) where
-  pub in-x : i < 32 → imageByte c (0 + i) ≡ byteAt (c .x) i
+module _ (q : Plant) (i : ℕ) where
+  pub in-x : i < 32 → imageByte q (0 + i) ≡ byteAt (q .mem .x) i
   unfolding imageByte bitByte
   in-x h = let e : 0 + i ≡ i = omega arith in rw (e, lt-ltb i 378 (omega arith), lt-ltb i 32 h) refl
 
-  pub in-y : i < 32 → imageByte c (32 + i) ≡ byteAt (c .y) i
+  pub in-y : i < 32 → imageByte q (32 + i) ≡ byteAt (q .mem .y) i
   unfolding imageByte bitByte
   in-y h =
       let e : 32 + i - 32 ≡ i = omega arith in
-      rw (lt-ltb (32 + i) 378 (omega arith), le-ltb (32 + i) 32 (omega arith), lt-ltb (32 + i) 64 (omega arith)) (ap (byteAt (c .y)) e)
+      rw (lt-ltb (32 + i) 378 (omega arith), le-ltb (32 + i) 32 (omega arith), lt-ltb (32 + i) 64 (omega arith)) (ap (byteAt (q .mem .y)) e)
 
-  pub in-m : i < 250 → imageByte c (64 + i) ≡ byteAt (c .m) i
+  pub in-m : i < 250 → imageByte q (64 + i) ≡ byteAt (q .mem .m) i
   unfolding imageByte bitByte
   in-m h =
       let e : 64 + i - 64 ≡ i = omega arith in
       rw (lt-ltb (64 + i) 378 (omega arith), le-ltb (64 + i) 32 (omega arith), le-ltb (64 + i) 64 (omega arith), lt-ltb (64 + i) 314 (omega arith))
-      (ap (byteAt (c .m)) e)
+      (ap (byteAt (q .mem .m)) e)
 
-  pub in-sm : i < 32 → imageByte c (314 + i) ≡ byteAt (c .sm) i
+  pub in-sm : i < 32 → imageByte q (314 + i) ≡ byteAt (q .mem .sm) i
   unfolding imageByte bitByte
   in-sm h =
       let e : 314 + i - 314 ≡ i = omega arith in
       rw (lt-ltb (314 + i) 378 (omega arith), le-ltb (314 + i) 32 (omega arith), le-ltb (314 + i) 64 (omega arith), le-ltb (314 + i) 314 (omega arith), lt-ltb (314 + i) 346 (omega arith))
-      (ap (byteAt (c .sm)) e)
+      (ap (byteAt (q .mem .sm)) e)
 
-  pub in-t : i < 32 → imageByte c (346 + i) ≡ byteAt (c .t) i
+  pub in-t : i < 32 → imageByte q (346 + i) ≡ byteAt (q .mem .t) i
   unfolding imageByte bitByte
   in-t h =
       let e : 346 + i - 346 ≡ i = omega arith in
       rw (lt-ltb (346 + i) 378 (omega arith), le-ltb (346 + i) 32 (omega arith), le-ltb (346 + i) 64 (omega arith), le-ltb (346 + i) 314 (omega arith), le-ltb (346 + i) 346 (omega arith))
-      (ap (byteAt (c .t)) e)
+      (ap (byteAt (q .mem .t)) e)
 
-  pub in-d : i < 16000 → imageByte c (378 + i) ≡ byteOf (c .d) i
+  pub in-d : i < 16000 → imageByte q (378 + i) ≡ byteOf (q .mem .d) i
   unfolding imageByte
   in-d h =
       let e : 378 + i - 378 ≡ i = omega arith in
-      rw (le-ltb (378 + i) 378 (omega arith), lt-ltb (378 + i) 16378 (omega arith)) (ap (byteOf (c .d)) e)
+      rw (le-ltb (378 + i) 378 (omega arith), lt-ltb (378 + i) 16378 (omega arith)) (ap (byteOf (q .mem .d)) e)
 
-  pub in-tv : imageByte c (16378 + i) ≡ byteOf (c .tv) i
+  pub in-tv : i < 512 → imageByte q (16378 + i) ≡ byteOf (q .mem .tv) i
   unfolding imageByte
-  in-tv =
+  in-tv h =
       let e : 16378 + i - 16378 ≡ i = omega arith in
-      rw (le-ltb (16378 + i) 378 (omega arith), le-ltb (16378 + i) 16378 (omega arith)) (ap (byteOf (c .tv)) e)
+      rw (le-ltb (16378 + i) 378 (omega arith), le-ltb (16378 + i) 16378 (omega arith), lt-ltb (16378 + i) 16890 (omega arith)) (ap (byteOf (q .mem .tv)) e)
 
--- a number below 16,890 is the number of a byte of one of the tables
+  pub in-rest : imageByte q (16890 + i) ≡ byteAt (q .rest) i
+  unfolding imageByte
+  in-rest =
+      let e : 16890 + i - 16890 ≡ i = omega arith in
+      rw (le-ltb (16890 + i) 378 (omega arith), le-ltb (16890 + i) 16378 (omega arith), le-ltb (16890 + i) 16890 (omega arith)) (ap (byteAt (q .rest)) e)
+
+-- a number below 16,892 is the number of a byte of one of the tables, or of a leftover
 pub by-table : (P : ℕ → Type 0) → ((k : ℕ) → k < 32 → P (0 + k)) → ((k : ℕ) → k < 32 → P (32 + k)) → ((k : ℕ) → k < 250 → P (64 + k)) → ((k : ℕ) → k < 32 → P (314 + k))
-    → ((k : ℕ) → k < 32 → P (346 + k)) → ((k : ℕ) → k < 16000 → P (378 + k)) → ((k : ℕ) → k < 512 → P (16378 + k)) → (i : ℕ) → i < 16890 → P i
-by-table P x y m sm t d tv i h =
+    → ((k : ℕ) → k < 32 → P (346 + k)) → ((k : ℕ) → k < 16000 → P (378 + k)) → ((k : ℕ) → k < 512 → P (16378 + k)) → ((k : ℕ) → k < 2 → P (16890 + k))
+    → (i : ℕ) → i < 16892 → P i
+by-table P x y m sm t d tv rest i h =
     elim (decLt i 32) [
       | yes l ↦ from 0 32 (omega arith) (omega arith) x
       | no a ↦ elim (decLt i 64) [
@@ -92,7 +99,10 @@ by-table P x y m sm t d tv i h =
               | yes l ↦ from 346 32 (omega arith) (omega arith) t
               | no f ↦ elim (decLt i 16378) [
                 | yes l ↦ from 378 16000 (omega arith) (omega arith) d
-                | no g ↦ from 16378 512 (omega arith) (omega arith) tv
+                | no g ↦ elim (decLt i 16890) [
+                  | yes l ↦ from 16378 512 (omega arith) (omega arith) tv
+                  | no j ↦ from 16890 2 (omega arith) (omega arith) rest
+                ]
               ]
             ]
           ]

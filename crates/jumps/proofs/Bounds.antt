@@ -14,6 +14,7 @@ use Rattle.ec20.specs.Flow.{isOn, gone}
 use Rattle.ec20.specs.Memory.{Memory}
 use Rattle.ec20.specs.Scan.{startState}
 use Rattle.ec20.specs.Step.{World, openLoops, world, going, forOf, closeOf, jumpOf, execOf, stepOf}
+use Rattle.ec20.specs.declared.Units.{Units}
 use Rattle.ec20.specs.declared.Instr.{Instr}
 use Rattle.ec20.specs.declared.Instr.the-variants.{Nop, Contact, Compare, Join, Branch, Coil, Timer, For, Next, Jump, Label, End, Word}
 use Rattle.jumps.proofs.Tables.{zeros, put-most}
@@ -79,7 +80,7 @@ module _ (p : Program) where
       gone-sane w _ _ (picked (λ (k : ℕ). k ≤ p .count + 1) (isOn (w .st)) _ _ (λ _. omega arith) (λ _. omega arith)) (s .room) s
 
   -- each instruction, in the program
-  exec-sane : (e : ℕ) (w : World) (i : Instr) → w .st .pc < p .count → Sane p w → Sane p (execOf p e i w)
+  exec-sane : (e : Units) (w : World) (i : Instr) → w .st .pc < p .count → Sane p w → Sane p (execOf p e i w)
   unfolding execOf
   exec-sane e w Nop h s = on-sane w _ (ahead w _ _ (record { pc = refl; depth = refl; ended = refl })) h s
   exec-sane e w (Contact n o) h s = on-sane w _ (ahead w _ _ (contact-on n _ (w .st))) h s
@@ -96,11 +97,11 @@ module _ (p : Program) where
   exec-sane e w (Word n a b t) h s = on-sane w _ (word-on n a b t w) h s
 
   -- END, in the program or past it
-  end-sane : (e : ℕ) (w : World) (i : Instr) → i ≡ End → Sane p w → Sane p (execOf p e i w)
+  end-sane : (e : Units) (w : World) (i : Instr) → i ≡ End → Sane p w → Sane p (execOf p e i w)
   unfolding execOf
   end-sane e w i q s = rw q (record { due = s .due; room = s .room; passes = s .passes; places = s .places; backs = s .backs })
 
-  pub sane-step : ((k : ℕ) → p .count ≤ k → p .code k ≡ End) → (e : ℕ) (w : World) → Sane p w → Sane p (stepOf p e w)
+  pub sane-step : ((k : ℕ) → p .count ≤ k → p .code k ≡ End) → (e : Units) (w : World) → Sane p w → Sane p (stepOf p e w)
   unfolding stepOf
   sane-step q e w s =
       elim (decLt (w .st .pc) (p .count)) [

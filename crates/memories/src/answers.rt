@@ -1,7 +1,7 @@
 // A Modbus request, answered over the bytes of a memory file.
 ghost use Prim.Native.Nat.{ℕ};
 ghost use Rattle.ec20.specs.Basics.{pick};
-ghost use Rattle.image.specs.Image.{memoryOf, imageOf};
+ghost use Rattle.image.specs.Image.{plantOf, imageOf};
 ghost use Rattle.memories.specs.Images.{answerIn};
 ghost use Rattle.modbus.specs.Answer.{answerOf};
 ghost use Rattle.modbus.specs.declared.Answered.the-variants.{Refused};
@@ -19,9 +19,9 @@ fn in_tables(
     frame: &[u8],
     reply: &mut [u8],
 ) -> Answered
-    ensures { λ r. ⌜ record { answer = r; m = now (m .exit); d = now (d .exit); reply = now (reply .exit) } ≡ pick (eqb size 16890) (answerOf station (now (frame .entry)) (now (m .entry)) (now (d .entry)) (now (reply .entry))) (record { answer = Refused 9 0; m = now (m .entry); d = now (d .entry); reply = now (reply .entry) }) ⌝ }
+    ensures { λ r. ⌜ record { answer = r; m = now (m .exit); d = now (d .exit); reply = now (reply .exit) } ≡ pick (eqb size 16892) (answerOf station (now (frame .entry)) (now (m .entry)) (now (d .entry)) (now (reply .entry))) (record { answer = Refused 9 0; m = now (m .entry); d = now (d .entry); reply = now (reply .entry) }) ⌝ }
 {
-    if size == 16890 {
+    if size == 16892 {
         return requests::answer(station, frame, m, d, reply);
     }
     Answered::Refused {
@@ -30,20 +30,20 @@ fn in_tables(
     }
 }
 
-// The frame at the station, over M and D of the image, which is then the memory after it. size: how many bytes the memory file has. A refused call
-// changes no byte.
+// The frame at the station, over M and D of the image, which is then the memory after it; the leftovers stay. size: how many bytes the memory file has.
+// A refused call changes no byte.
 pub fn in_image(
-    image: &mut [u8; 16890],
+    image: &mut [u8; 16892],
     size: usize,
     station: u32,
     frame: &[u8],
     reply: &mut [u8],
 ) -> Answered
-    ensures { λ r. ⌜ r ≡ answerIn size station (now (frame .entry)) (memoryOf (now (image .entry))) (now (reply .entry)) .answer ⌝ }
-    ensures { λ _. ⌜ memoryOf (now (image .exit)) ≡ answerIn size station (now (frame .entry)) (memoryOf (now (image .entry))) (now (reply .entry)) .mem ⌝ }
-    ensures { λ _. ⌜ now (image .exit) ≡ imageOf (answerIn size station (now (frame .entry)) (memoryOf (now (image .entry))) (now (reply .entry)) .mem) ⌝ }
+    ensures { λ r. ⌜ r ≡ answerIn size station (now (frame .entry)) (plantOf (now (image .entry))) (now (reply .entry)) .answer ⌝ }
+    ensures { λ _. ⌜ plantOf (now (image .exit)) ≡ answerIn size station (now (frame .entry)) (plantOf (now (image .entry))) (now (reply .entry)) .plant ⌝ }
+    ensures { λ _. ⌜ now (image .exit) ≡ imageOf (answerIn size station (now (frame .entry)) (plantOf (now (image .entry))) (now (reply .entry)) .plant) ⌝ }
     ensures { λ r. ⌜ ((m k : ℕ) → r ≡ Refused m k → now (image .exit) ≡ now (image .entry)) ⌝ }
-    ensures { λ _. ⌜ now (reply .exit) ≡ answerIn size station (now (frame .entry)) (memoryOf (now (image .entry))) (now (reply .entry)) .reply ⌝ }
+    ensures { λ _. ⌜ now (reply .exit) ≡ answerIn size station (now (frame .entry)) (plantOf (now (image .entry))) (now (reply .entry)) .reply ⌝ }
 {
     let mut x = tables::bits();
     let mut y = tables::bits();
@@ -52,6 +52,7 @@ pub fn in_image(
     let mut t = tables::bits();
     let mut d = tables::d_words();
     let mut tv = tables::t_values();
+    let mut rest = tables::rest();
     image::split(
         image,
         &mut x,
@@ -61,8 +62,9 @@ pub fn in_image(
         &mut t,
         &mut d,
         &mut tv,
+        &mut rest,
     );
     let a = in_tables(&mut m, &mut d, size, station, frame, reply);
-    image::join(&x, &y, &m, &sm, &t, &d, &tv, image);
+    image::join(&x, &y, &m, &sm, &t, &d, &tv, &rest, image);
     a
 }

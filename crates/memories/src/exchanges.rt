@@ -4,7 +4,7 @@ ghost use Rattle.ec20.specs.Basics.{pick};
 ghost use Rattle.ec20.specs.Exchange.{exchangeOf};
 ghost use Rattle.ec20.specs.Move.{block};
 ghost use Rattle.ec20.specs.declared.Exchanged.the-variants.{Refused};
-ghost use Rattle.image.specs.Image.{memoryOf, imageOf};
+ghost use Rattle.image.specs.Image.{plantOf, imageOf};
 ghost use Rattle.memories.specs.Images.{exchangeIn};
 ghost use lib.Dec.{eqb};
 ghost use mathlib.Core.Path.{_≡_};
@@ -20,9 +20,9 @@ pub struct Way {
 
 // The exchange in the table D of a memory file of so many bytes: one of another size is refused by 9.
 fn in_words(d: &mut [i16], size: usize, w: Way) -> Exchanged
-    ensures { λ r. ⌜ record { answer = r; words = now (d .exit) } ≡ pick (eqb size 16890) (exchangeOf (now (d .entry)) (block (w .start) (w .length)) (w .place)) (record { answer = Refused 9 0; words = now (d .entry) }) ⌝ }
+    ensures { λ r. ⌜ record { answer = r; words = now (d .exit) } ≡ pick (eqb size 16892) (exchangeOf (now (d .entry)) (block (w .start) (w .length)) (w .place)) (record { answer = Refused 9 0; words = now (d .entry) }) ⌝ }
 {
-    if size == 16890 {
+    if size == 16892 {
         return exchange::exchange(d, w.start, w.length, w.place);
     }
     Exchanged::Refused {
@@ -31,11 +31,12 @@ fn in_words(d: &mut [i16], size: usize, w: Way) -> Exchanged
     }
 }
 
-// The exchange in the memory of the image, which is then the one after it. size: how many bytes the memory file has. A refused one changes no byte.
-pub fn in_image(image: &mut [u8; 16890], size: usize, w: Way) -> Exchanged
-    ensures { λ r. ⌜ r ≡ exchangeIn size (block (w .start) (w .length)) (w .place) (memoryOf (now (image .entry))) .answer ⌝ }
-    ensures { λ _. ⌜ memoryOf (now (image .exit)) ≡ exchangeIn size (block (w .start) (w .length)) (w .place) (memoryOf (now (image .entry))) .mem ⌝ }
-    ensures { λ _. ⌜ now (image .exit) ≡ imageOf (exchangeIn size (block (w .start) (w .length)) (w .place) (memoryOf (now (image .entry))) .mem) ⌝ }
+// The exchange in the memory of the image, which is then the one after it; the leftovers stay. size: how many bytes the memory file has. A refused one
+// changes no byte.
+pub fn in_image(image: &mut [u8; 16892], size: usize, w: Way) -> Exchanged
+    ensures { λ r. ⌜ r ≡ exchangeIn size (block (w .start) (w .length)) (w .place) (plantOf (now (image .entry))) .answer ⌝ }
+    ensures { λ _. ⌜ plantOf (now (image .exit)) ≡ exchangeIn size (block (w .start) (w .length)) (w .place) (plantOf (now (image .entry))) .plant ⌝ }
+    ensures { λ _. ⌜ now (image .exit) ≡ imageOf (exchangeIn size (block (w .start) (w .length)) (w .place) (plantOf (now (image .entry))) .plant) ⌝ }
     ensures { λ r. ⌜ ((m k : ℕ) → r ≡ Refused m k → now (image .exit) ≡ now (image .entry)) ⌝ }
 {
     let mut x = tables::bits();
@@ -45,6 +46,7 @@ pub fn in_image(image: &mut [u8; 16890], size: usize, w: Way) -> Exchanged
     let mut t = tables::bits();
     let mut d = tables::d_words();
     let mut tv = tables::t_values();
+    let mut rest = tables::rest();
     image::split(
         image,
         &mut x,
@@ -54,8 +56,9 @@ pub fn in_image(image: &mut [u8; 16890], size: usize, w: Way) -> Exchanged
         &mut t,
         &mut d,
         &mut tv,
+        &mut rest,
     );
     let e = in_words(&mut d, size, w);
-    image::join(&x, &y, &m, &sm, &t, &d, &tv, image);
+    image::join(&x, &y, &m, &sm, &t, &d, &tv, &rest, image);
     e
 }

@@ -15,15 +15,15 @@ use Rattle.ec20.specs.Bits.{bitAt}
 use Rattle.ec20.specs.Code.{Program, programOf}
 use Rattle.ec20.specs.Check.{checkFor}
 use Rattle.ec20.specs.Registers.{wordAt}
-use Rattle.ec20.specs.Memory.{Memory}
+use Rattle.ec20.specs.Plant.{Plant}
 use Rattle.ec20.specs.Scan.{scanFor}
 use Rattle.ec20.specs.UseMap.{mapFor}
 use Rattle.ec20.specs.Move.{block}
 use Rattle.ec20.specs.Exchange.{swapped}
 use Rattle.ec20.proofs.Computing.{computing}
 use Rattle.ec20.proofs.Tests.{differ}
-use Rattle.ec20.proofs.Files.{K, SM, D, r0, r1, r2, r3, file, blank}
-use Rattle.moving.specs.Rename.{Swap, renameOperand, renameInstr, renameProgram, exMemory, exScan, Along, Whole}
+use Rattle.ec20.proofs.Files.{K, SM, D, r0, r1, r2, r3, file, blank, still}
+use Rattle.moving.specs.Rename.{Swap, renameOperand, renameInstr, renameProgram, exPlant, exScan, Along, Whole}
 use Rattle.moving.specs.Series.{Input, series}
 use Rattle.moving.proofs.Load.{along-one}
 use Rattle.moving.proofs.Series.{series-sim}
@@ -114,12 +114,12 @@ whole (suc (suc (suc (suc (suc k))))) =
     let h : ltb (suc (suc (suc (suc (suc k))))) 5 ≡ false = le-ltb (suc (suc (suc (suc (suc k))))) 5 (omega arith) in rw h tt
 
 -- so every series of scans of the second from the exchanged memory on is the exchanged series of the first
-pub series-same : (c : Memory) (is : List Input) → series ec20 (sample 2) (exMemory σ c) is ≡ map (exScan σ) (series ec20 (sample 0) c is)
+pub series-same : (q : Plant) (is : List Input) → series ec20 (sample 2) (exPlant σ q) is ≡ map (exScan σ) (series ec20 (sample 0) q is)
 series-same = series-sim σ ec20 swap (sample 0) (sample 2) same-check same-program whole
 
 -- and it is not for nothing: the first leaves 100000 in the pair at D0, the second in the pair at D2, and both leave the quotient 33333 at D20
 abbrev after : ℕ → ℕ → ℤ
-after n i = wordAt (scanFor ec20 (sample n) 0 100 blank .mem .d) i
+after n i = wordAt (scanFor ec20 (sample n) 0 100 (still blank) .plant .mem .d) i
 
 pub in-D0 : (after 0 0 ≡ pos 1) × (after 0 1 ≡ negℤ (pos 31072)) × (after 0 2 ≡ pos 0) × (after 0 8 ≡ pos 1) × (after 0 21 ≡ negℤ (pos 32203)) × (after 0 23 ≡ pos 1)
 unfolding computing
@@ -138,8 +138,8 @@ unmarked : bitAt (mapFor ec20 (sample 0) .written) 5 ≡ 0
 unfolding computing
 unmarked = refl
 
-pub D5-kept : (e budget : ℕ) (c : Memory) → wordAt (scanFor ec20 (sample 0) e budget c .mem .d) 5 ≡ wordAt (c .d) 5
+pub D5-kept : (e budget : ℕ) (q : Plant) → wordAt (scanFor ec20 (sample 0) e budget q .plant .mem .d) 5 ≡ wordAt (q .mem .d) 5
 D5-kept = map-kept ec20 (sample 0) 5 5 accepted 5 (omega arith) unmarked
 
-pub D7950-kept : (e budget : ℕ) (c : Memory) → wordAt (scanFor ec20 (sample 0) e budget c .mem .d) 7950 ≡ wordAt (c .d) 7950
+pub D7950-kept : (e budget : ℕ) (q : Plant) → wordAt (scanFor ec20 (sample 0) e budget q .plant .mem .d) 7950 ≡ wordAt (q .mem .d) 7950
 D7950-kept = work-kept ec20 (sample 0) 5 5 accepted 7950 (omega arith)

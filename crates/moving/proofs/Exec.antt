@@ -7,6 +7,7 @@ use lib.Dec.{eqb, ltb}
 use lib.ListN.{getD, length}
 use Rattle.ec20.specs.declared.Operand.{Operand}
 use Rattle.ec20.specs.declared.Outcome.{Outcome}
+use Rattle.ec20.specs.declared.Units.{Units}
 use Rattle.ec20.specs.declared.Instr.{Instr}
 use Rattle.ec20.specs.declared.Instr.the-variants.{Nop, Contact, Compare, Join, Branch, Coil, Timer, For, Next, Jump, Label, End, Word}
 use Rattle.ec20.specs.Basics.{pick, one-if}
@@ -115,19 +116,19 @@ module _ (σ : ℕ → ℕ) where
   compare-sim n a b w h = rw (load-sim σ 16 a (w .mem) (along-one σ a) h, load-sim σ 16 b (w .mem) (along-one σ b) h)
 
   -- EXEC: the renamed instruction on the exchanged table does what the instruction does, and the table is then exchanged
-  pub exec-sim : (p : Program) (e : ℕ) (i : Instr) (w : World) → Whole σ i → Swap σ (length (w .mem .d))
-      → execOf (renameProgram σ p) e (renameInstr σ i) (exWorld σ w) ≡ exWorld σ (execOf p e i w)
+  pub exec-sim : (p : Program) (u : Units) (i : Instr) (w : World) → Whole σ i → Swap σ (length (w .mem .d))
+      → execOf (renameProgram σ p) u (renameInstr σ i) (exWorld σ w) ≡ exWorld σ (execOf p u i w)
   unfolding execOf renameInstr loadBit bitsOf timerOf
-  exec-sim p e Nop w o h = refl
-  exec-sim p e (Contact n a) w o h = refl
-  exec-sim p e (Compare n a b) w o h = compare-sim n a b w h
-  exec-sim p e (Join n) w o h = refl
-  exec-sim p e (Branch n) w o h = refl
-  exec-sim p e (Coil n a) w o h = ap (λ (c : Memory). going w c (acted (w .st))) (coil-sim n a (isOn (w .st)) (w .mem))
-  exec-sim p e (Timer i c) w o h = refl
-  exec-sim p e (For c) w o h = for-sim p c w
-  exec-sim p e Next w o h = close-sim w
-  exec-sim p e (Jump l) w o h = jump-sim p l w
-  exec-sim p e (Label l) w o h = refl
-  exec-sim p e End w o h = refl
-  exec-sim p e (Word n a b t) w o h = word-sim n a b t w o h
+  exec-sim p u Nop w o h = refl
+  exec-sim p u (Contact n a) w o h = refl
+  exec-sim p u (Compare n a b) w o h = compare-sim n a b w h
+  exec-sim p u (Join n) w o h = refl
+  exec-sim p u (Branch n) w o h = refl
+  exec-sim p u (Coil n a) w o h = ap (λ (c : Memory). going w c (acted (w .st))) (coil-sim n a (isOn (w .st)) (w .mem))
+  exec-sim p u (Timer i c) w o h = refl
+  exec-sim p u (For c) w o h = for-sim p c w
+  exec-sim p u Next w o h = close-sim w
+  exec-sim p u (Jump l) w o h = jump-sim p l w
+  exec-sim p u (Label l) w o h = refl
+  exec-sim p u End w o h = refl
+  exec-sim p u (Word n a b t) w o h = word-sim n a b t w o h

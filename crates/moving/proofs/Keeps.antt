@@ -7,6 +7,7 @@ use lib.Dec.{eqb, ltb}
 use lib.ListN.{getD, length}
 use lib.IntN.{ℤ}
 use Rattle.ec20.specs.declared.Operand.{Operand}
+use Rattle.ec20.specs.declared.Units.{Units}
 use Rattle.ec20.specs.declared.Instr.{Instr}
 use Rattle.ec20.specs.declared.Instr.the-variants.{Nop, Contact, Compare, Join, Branch, Coil, Timer, For, Next, Jump, Label, End, Word}
 use Rattle.ec20.specs.Devices.{Device, kindY, kindM}
@@ -60,35 +61,35 @@ module _ (Q : List ℤ → Type 0) where
       (λ _. h)
 
   -- one instruction
-  pub exec-keeps : (p : Program) (e : ℕ) (i : Instr) (w : World) → Keeps i → Q (w .mem .d) → Q (execOf p e i w .mem .d)
+  pub exec-keeps : (p : Program) (u : Units) (i : Instr) (w : World) → Keeps i → Q (w .mem .d) → Q (execOf p u i w .mem .d)
   unfolding execOf forOf closeOf timerOf
-  exec-keeps p e Nop w k h = h
-  exec-keeps p e (Contact n o) w k h = h
-  exec-keeps p e (Compare n a b) w k h = h
-  exec-keeps p e (Join n) w k h = h
-  exec-keeps p e (Branch n) w k h = h
-  exec-keeps p e (Coil n o) w k h = coil-keeps n o (isOn (w .st)) (w .mem) h
-  exec-keeps p e (Timer i c) w k h = h
-  exec-keeps p e (For c) w k h = picked In (eqb c 0) _ _ (λ _. h) (λ _. picked In (ltb (w .st .depth) 8) _ _ (λ _. h) (λ _. h))
-  exec-keeps p e Next w k h = picked In (ltb 1 (getD (w .loops .left) (w .st .depth - 1) 0)) _ _ (λ _. h) (λ _. h)
-  exec-keeps p e (Jump l) w k h = h
-  exec-keeps p e (Label l) w k h = h
-  exec-keeps p e End w k h = h
-  exec-keeps p e (Word n a b t) w k h = word-keeps n a b t w k h
+  exec-keeps p u Nop w k h = h
+  exec-keeps p u (Contact n o) w k h = h
+  exec-keeps p u (Compare n a b) w k h = h
+  exec-keeps p u (Join n) w k h = h
+  exec-keeps p u (Branch n) w k h = h
+  exec-keeps p u (Coil n o) w k h = coil-keeps n o (isOn (w .st)) (w .mem) h
+  exec-keeps p u (Timer i c) w k h = h
+  exec-keeps p u (For c) w k h = picked In (eqb c 0) _ _ (λ _. h) (λ _. picked In (ltb (w .st .depth) 8) _ _ (λ _. h) (λ _. h))
+  exec-keeps p u Next w k h = picked In (ltb 1 (getD (w .loops .left) (w .st .depth - 1) 0)) _ _ (λ _. h) (λ _. h)
+  exec-keeps p u (Jump l) w k h = h
+  exec-keeps p u (Label l) w k h = h
+  exec-keeps p u End w k h = h
+  exec-keeps p u (Word n a b t) w k h = word-keeps n a b t w k h
 
-  module _ (p : Program) (e : ℕ) (keeps : (k : ℕ) → Keeps (p .code k)) where
-    pub step-keeps : (w : World) → Q (w .mem .d) → Q (stepOf p e w .mem .d)
+  module _ (p : Program) (u : Units) (keeps : (k : ℕ) → Keeps (p .code k)) where
+    pub step-keeps : (w : World) → Q (w .mem .d) → Q (stepOf p u w .mem .d)
     unfolding stepOf
-    step-keeps w h = exec-keeps p e (p .code (w .st .pc)) w (keeps (w .st .pc)) h
+    step-keeps w h = exec-keeps p u (p .code (w .st .pc)) w (keeps (w .st .pc)) h
 
-    run-keeps : (n k : ℕ) (w : World) → Q (w .mem .d) → Q (runOf p e n k w .after .mem .d)
+    run-keeps : (n k : ℕ) (w : World) → Q (w .mem .d) → Q (runOf p u n k w .after .mem .d)
     unfolding runOf
     run-keeps zero k w h = h
     run-keeps (suc n) k w h =
-        picked (λ (r : Run). In (r .after)) (eqb (w .st .ended) 0) _ _ (λ _. run-keeps n (k + 1) (stepOf p e w) (step-keeps w h)) (λ _. h)
+        picked (λ (r : Run). In (r .after)) (eqb (w .st .ended) 0) _ _ (λ _. run-keeps n (k + 1) (stepOf p u w) (step-keeps w h)) (λ _. h)
 
     -- KEEPS: after the scan as before it
-    pub scan-keeps : (v : Device) (budget : ℕ) (c : Memory) → Q (c .d) → Q (runScan v p e budget c .mem .d)
+    pub scan-keeps : (v : Device) (budget : ℕ) (c : Memory) → Q (c .d) → Q (runScan v p u budget c .mem .d)
     unfolding runScan
     scan-keeps v budget c h = run-keeps budget 0 (startWorld v c) (picked Of (v .wakes) _ _ (λ _. h) (λ _. h))
 
@@ -108,8 +109,8 @@ length-kept m (Label l) = tt
 length-kept m End = tt
 length-kept m (Word n a b t) = λ x y c h. length-store-all (widthOf n) t (computeOf n (half (widthOf n)) x y) c ∙ h
 
-pub length-step : (p : Program) (e : ℕ) (w : World) → length (stepOf p e w .mem .d) ≡ length (w .mem .d)
-length-step p e w = step-keeps (λ (l : List ℤ). length l ≡ length (w .mem .d)) p e (λ k. length-kept _ (p .code k)) w refl
+pub length-step : (p : Program) (u : Units) (w : World) → length (stepOf p u w .mem .d) ≡ length (w .mem .d)
+length-step p u w = step-keeps (λ (l : List ℤ). length l ≡ length (w .mem .d)) p u (λ k. length-kept _ (p .code k)) w refl
 
-pub length-scan : (v : Device) (p : Program) (e budget : ℕ) (c : Memory) → length (runScan v p e budget c .mem .d) ≡ length (c .d)
-length-scan v p e budget c = scan-keeps (λ (l : List ℤ). length l ≡ length (c .d)) p e (λ k. length-kept _ (p .code k)) v budget c refl
+pub length-scan : (v : Device) (p : Program) (u : Units) (budget : ℕ) (c : Memory) → length (runScan v p u budget c .mem .d) ≡ length (c .d)
+length-scan v p u budget c = scan-keeps (λ (l : List ℤ). length l ≡ length (c .d)) p u (λ k. length-kept _ (p .code k)) v budget c refl

@@ -12,7 +12,7 @@ use Rattle.ec20.specs.Bits.{bitOf, bitAt}
 use Rattle.ec20.specs.File.{recordsOf}
 use Rattle.ec20.specs.Check.{checkFor}
 use Rattle.ec20.specs.Registers.{wordAt}
-use Rattle.ec20.specs.Memory.{Memory}
+use Rattle.ec20.specs.Plant.{Plant}
 use Rattle.ec20.specs.Scan.{scanFor}
 use Rattle.ec20.specs.UseMap.{markedWritten, packedBy, mapOf, mapIf, mapFor}
 use Rattle.ec20.proofs.MovedLaws.{getD-from}
@@ -57,5 +57,5 @@ module _ (v : Device) (f : List ℕ) (n w : ℕ) (ok : checkFor v f ≡ Accepted
 
   -- MAP: a word that the use map of an accepted file does not mark written is after a scan what it was, for every device, elapsed time, budget
   -- and memory
-  pub map-kept : bitAt (mapFor v f .written) i ≡ 0 → (e budget : ℕ) (c : Memory) → wordAt (scanFor v f e budget c .mem .d) i ≡ wordAt (c .d) i
-  map-kept h e budget c = kept v i f (off (markedWritten (recordsOf f) i) (sym written-bit ∙ h)) e budget c
+  pub map-kept : bitAt (mapFor v f .written) i ≡ 0 → (e budget : ℕ) (q : Plant) → wordAt (scanFor v f e budget q .plant .mem .d) i ≡ wordAt (q .mem .d) i
+  map-kept h e budget q = kept v i f (off (markedWritten (recordsOf f) i) (sym written-bit ∙ h)) e budget q

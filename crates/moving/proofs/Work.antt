@@ -19,8 +19,8 @@ use Rattle.ec20.specs.File.{recordsOf}
 use Rattle.ec20.specs.Code.{Program, programOf}
 use Rattle.ec20.specs.Check.{checkFor}
 use Rattle.ec20.specs.Registers.{wordAt}
-use Rattle.ec20.specs.Memory.{Memory}
-use Rattle.ec20.specs.Scan.{Scan, runScan, fitting, scanIf, scanFor}
+use Rattle.ec20.specs.Plant.{Plant, unitsIn}
+use Rattle.ec20.specs.Scan.{Scan, runScan, timedScan, fitting, scanIf, scanFor}
 use Rattle.ec20.specs.UseMap.{holds, recordHas, someRecord, markedWritten}
 use Rattle.ec20.proofs.Ranges.{is-within}
 use Rattle.ec20.proofs.Some.{some-at}
@@ -58,23 +58,25 @@ module _ (v : Device) (i : ℕ) (work : Work v i) where
       go false e = e
 
 -- what lies past the D table reads as 0, before a scan and after it
-past-if : (v : Device) (a : Verdict) (p : Program) (i : ℕ) → v .words ≤ i → (e budget : ℕ) (c : Memory)
-    → wordAt (scanIf v a p e budget c .mem .d) i ≡ wordAt (c .d) i
-past-if v (Accepted n s) p i h e budget c =
-    picked (λ (s : Scan). wordAt (s .mem .d) i ≡ wordAt (c .d) i) (fitting v e c) _ _
-    (λ q.
-    let l : length (c .d) ≡ v .words = fitting-words v e c q in
-    let k : length (runScan v p e budget c .mem .d) ≡ length (c .d) = length-scan v p e budget c in
-    List·getD-eq-default (runScan v p e budget c .mem .d) (pos 0) (omega arith) ∙ sym (List·getD-eq-default (c .d) (pos 0) (omega arith)))
+past-if : (v : Device) (a : Verdict) (p : Program) (i : ℕ) → v .words ≤ i → (e budget : ℕ) (q : Plant)
+    → wordAt (scanIf v a p e budget q .plant .mem .d) i ≡ wordAt (q .mem .d) i
+unfolding timedScan
+past-if v (Accepted n s) p i h e budget q =
+    picked (λ (s : Scan). wordAt (s .plant .mem .d) i ≡ wordAt (q .mem .d) i) (fitting v e q) _ _
+    (λ t.
+    let u = unitsIn e (q .rest) in
+    let l : length (q .mem .d) ≡ v .words = fitting-words v e q t in
+    let k : length (runScan v p u budget (q .mem) .mem .d) ≡ length (q .mem .d) = length-scan v p u budget (q .mem) in
+    List·getD-eq-default (runScan v p u budget (q .mem) .mem .d) (pos 0) (omega arith) ∙ sym (List·getD-eq-default (q .mem .d) (pos 0) (omega arith)))
     (λ _. refl)
-past-if v (Refused n k) p i h e budget c = refl
+past-if v (Refused n k) p i h e budget q = refl
 
 -- WORK: in a scan of an accepted file no word from the first of WORK on changes, for every device, elapsed time, budget and memory
-pub work-kept : (v : Device) (f : List ℕ) (n w : ℕ) → checkFor v f ≡ Accepted n w → (i : ℕ) → v .work ≤ i → (e budget : ℕ) (c : Memory)
-    → wordAt (scanFor v f e budget c .mem .d) i ≡ wordAt (c .d) i
+pub work-kept : (v : Device) (f : List ℕ) (n w : ℕ) → checkFor v f ≡ Accepted n w → (i : ℕ) → v .work ≤ i → (e budget : ℕ) (q : Plant)
+    → wordAt (scanFor v f e budget q .plant .mem .d) i ≡ wordAt (q .mem .d) i
 unfolding scanFor
-work-kept v f n w ok i h e budget c =
+work-kept v f n w ok i h e budget q =
     elim (decLt i (v .words)) [
-      | yes l ↦ kept v i f (work-unmarked v i (record { from = h; to = l }) f n w ok) e budget c
-      | no l ↦ past-if v (checkFor v f) (programOf f) i (omega arith) e budget c
+      | yes l ↦ kept v i f (work-unmarked v i (record { from = h; to = l }) f n w ok) e budget q
+      | no l ↦ past-if v (checkFor v f) (programOf f) i (omega arith) e budget q
     ]

@@ -15,7 +15,8 @@ use Rattle.ec20.specs.Memory.{Memory, withD}
 use Rattle.ec20.specs.Mnemonics.{DIV, DDIV}
 use Rattle.ec20.specs.Words.{is}
 use Rattle.ec20.specs.Step.{World, world, widthOf}
-use Rattle.ec20.specs.Scan.{Scan, scan}
+use Rattle.ec20.specs.Plant.{Plant, plant}
+use Rattle.ec20.specs.Scan.{Ran, ran, Scan, scan}
 
 -- a renaming that is its own inverse, and keeps the numbers below n below n
 pub record Swap (σ : ℕ → ℕ) (n : ℕ) : Type 0 where
@@ -56,8 +57,15 @@ exMemory σ c = withD c (exchangeBy σ (c .d))
 abbrev pub exWorld : (ℕ → ℕ) → World → World
 exWorld σ w = world (exMemory σ (w .mem)) (w .loops) (w .st)
 
+abbrev pub exRan : (ℕ → ℕ) → Ran → Ran
+exRan σ r = ran (r .answer) (exMemory σ (r .mem))
+
+-- the leftovers are not exchanged
+abbrev pub exPlant : (ℕ → ℕ) → Plant → Plant
+exPlant σ q = plant (exMemory σ (q .mem)) (q .rest)
+
 abbrev pub exScan : (ℕ → ℕ) → Scan → Scan
-exScan σ s = scan (s .answer) (exMemory σ (s .mem))
+exScan σ s = scan (s .answer) (exPlant σ (s .plant))
 
 -- if the operand is in D, the e words from its first on go along: each is renamed to as many on from the renamed first
 unfoldable pub Along : (ℕ → ℕ) → ℕ → Operand → Type 0

@@ -23,6 +23,7 @@ use Rattle.ec20.specs.Operands.{kindIs, constantOf}
 use Rattle.ec20.specs.Memory.{Memory, sized, withY, withM, withSM, withD, storeBit, constantAt, storeOf, following}
 use Rattle.ec20.specs.Words.{withFlags, storeAll}
 use Rattle.ec20.specs.Flow.{coilOf}
+use Rattle.ec20.specs.declared.Units.{Units}
 use Rattle.ec20.specs.Timers.{timerOf}
 use Rattle.ints.proofs.TwosLaws.{signed-small, signed-large}
 use Rattle.bits.proofs.Laws.{bit-length, group-length}
@@ -108,9 +109,9 @@ coil-lengths n o on c =
     (one-of on (store-bit-lengths o (one-if (eqb n 13)) c)
     (same-lengths c))
 
-pub timer-lengths : (elapsed i constant : ℕ) (on : Bool) (c : Memory) → SameLengths c (timerOf elapsed i constant on c)
+pub timer-lengths : (u : Units) (i constant : ℕ) (on : Bool) (c : Memory) → SameLengths c (timerOf u i constant on c)
 unfolding timerOf
-timer-lengths elapsed i constant on c =
+timer-lengths u i constant on c =
     record { x = refl; y = refl; m = refl; sm = refl; t = bit-length (c .t) i _; d = refl; tv = length-set (c .tv) i _ }
 
 -- ---- D words
@@ -172,9 +173,9 @@ coil-d n o on c = go (eqb n 12) on
     go false true = store-bit-d o (one-if (eqb n 13)) c
     go false false = refl
 
-pub timer-d : (elapsed i constant : ℕ) (on : Bool) (c : Memory) → timerOf elapsed i constant on c .d ≡ c .d
+pub timer-d : (u : Units) (i constant : ℕ) (on : Bool) (c : Memory) → timerOf u i constant on c .d ≡ c .d
 unfolding timerOf
-timer-d elapsed i constant on c = refl
+timer-d u i constant on c = refl
 
 -- ---- constants
 

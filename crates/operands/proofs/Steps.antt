@@ -21,6 +21,7 @@ use Rattle.ec20.specs.Bits.{packed, withBit, groupAt, withGroup}
 use Rattle.ec20.specs.Memory.{Memory, memory, groupBits, storeBit, constantAt, loadOf, storeOf, following, withSM}
 use Rattle.ec20.specs.Words.{withFlags, storeAll}
 use Rattle.ec20.specs.Flow.{coilOf}
+use Rattle.ec20.specs.declared.Units.{Units}
 use Rattle.ec20.specs.Timers.{unitsOf, oldOf, countedOf, contactIs, limitAt, timerOf}
 use Rattle.ec20.proofs.Tests.{both}
 use Rattle.ints.proofs.TwosLaws.{signed-small}
@@ -188,9 +189,9 @@ old-negative (pos n) h = absurd (omega (arith, ltZ-true (pos n) (pos 0) h))
 old-negative (negsuc n) h = refl
 
 -- a timer
-module _ (elapsed i constant : ℕ) (on : Bool) (t : List ℕ) (tv : List ℤ) where
-  pub timed : (n : ℕ) {t1 : List ℕ} {tv1 : List ℤ} → n ≡ countedOf on (limitAt constant) (unitsOf elapsed i) (getD tv i (pos 0)) → t1 ≡ withBit t i (contactIs on (limitAt constant) n) → tv1 ≡ set tv i (pos n)
-      → (x y m sm : List ℕ) (d : List ℤ) → memory x y m sm t1 d tv1 ≡ timerOf elapsed i constant on (memory x y m sm t d tv)
+module _ (u : Units) (i constant : ℕ) (on : Bool) (t : List ℕ) (tv : List ℤ) where
+  pub timed : (n : ℕ) {t1 : List ℕ} {tv1 : List ℤ} → n ≡ countedOf on (limitAt constant) (unitsOf u i) (getD tv i (pos 0)) → t1 ≡ withBit t i (contactIs on (limitAt constant) n) → tv1 ≡ set tv i (pos n)
+      → (x y m sm : List ℕ) (d : List ℤ) → memory x y m sm t1 d tv1 ≡ timerOf u i constant on (memory x y m sm t d tv)
   unfolding timerOf
   timed n en et ev x y m sm d =
       ap₂ (λ (l : List ℕ) (k : List ℤ). memory x y m sm l d k) et ev

@@ -5,6 +5,7 @@
 // read by one wherever it would make the step too long: docs/BENCHMARKS.md, 'Where the step stands', has what the compiler inlines.
 use ec20::Operand;
 use ec20::Outcome;
+use ec20::Units;
 ghost use mathlib.Core.Path.{_≡_};
 ghost use mathlib.Core.Bool.{false};
 ghost use mathlib.Core.List.{List};
@@ -17,7 +18,7 @@ ghost use Rattle.ec20.specs.Numbers.{bitsIn, half};
 ghost use Rattle.ec20.specs.Memory.{memory, loadBit, storeBit, constantAt, loadOf, storeOf, following};
 ghost use Rattle.ec20.specs.Words.{withFlags};
 ghost use Rattle.ec20.specs.Flow.{coilOf};
-ghost use Rattle.ec20.specs.Timers.{unitsOf, oldOf, countedOf, contactIs, limitAt, timerOf};
+ghost use Rattle.ec20.specs.Timers.{unitsOf, Few, oldOf, countedOf, contactIs, limitAt, timerOf};
 
 // "bit: X, Y, M, SM, T": whether the bit that the operand names is on; T contacts for all kinds but X, Y, M and SM. By tests and not by a `match`,
 // which becomes a jump through a table, the second one of the step.
@@ -274,12 +275,18 @@ pub fn coil(n: usize, o: Operand, on: bool, y: &mut [u8], m: &mut [u8])
     }
 }
 
-// "Every timer counts units of 100 ms": how many units timer i counts in a scan of so many elapsed units.
-fn units(elapsed: usize, i: usize) -> usize
-    requires { ⌜ elapsed ≤ 32767 ⌝ }
-    ensures { λ r. ⌜ (r ≡ unitsOf elapsed i) × (r ≤ 32767) ⌝ }
+// "T0 to T209 are 100 ms, T210 to T251 are 10 ms, T252 to T255 are 1 ms": how many units timer i counts of those that a scan gives.
+fn units(u: Units, i: usize) -> usize
+    requires { ⌜ Few u ⌝ }
+    ensures { λ r. ⌜ (r ≡ unitsOf u i) × (r ≤ 32767) ⌝ }
 {
-    elapsed
+    if i < 210 {
+        return u.hundreds;
+    }
+    if i < 252 {
+        return u.tens;
+    }
+    u.ones
 }
 
 // "old value, or 0 if negative".
@@ -313,13 +320,13 @@ fn contact(on: bool, limit: usize, n: usize) -> usize
     if on { (n == limit) as usize } else { 0 }
 }
 
-// "TON": timer i with this constant, with flow or not, in a scan of so many elapsed units.
-pub fn timer(elapsed: usize, i: usize, constant: usize, on: bool, t: &mut [u8], tv: &mut [i16])
-    requires { ⌜ elapsed ≤ 32767 ⌝ }
-    ensures { λ _. ⌜ ((x y m sm : List ℕ) (d : List ℤ) → memory x y m sm (now (t .exit)) d (now (tv .exit)) ≡ timerOf elapsed i constant on (memory x y m sm (now (t .entry)) d (now (tv .entry)))) ⌝ }
+// "TON": timer i with this constant, with flow or not, in a scan that gives these units.
+pub fn timer(u: Units, i: usize, constant: usize, on: bool, t: &mut [u8], tv: &mut [i16])
+    requires { ⌜ Few u ⌝ }
+    ensures { λ _. ⌜ ((x y m sm : List ℕ) (d : List ℤ) → memory x y m sm (now (t .exit)) d (now (tv .exit)) ≡ timerOf u i constant on (memory x y m sm (now (t .entry)) d (now (tv .entry)))) ⌝ }
 {
     let limit = constant % 32768;
-    let n = counted(on, limit, units(elapsed, i), words::word_at(tv, i));
+    let n = counted(on, limit, units(u, i), words::word_at(tv, i));
     bits::put_bit(t, i, contact(on, limit, n));
     words::put_word(tv, i, ints::whole(n as u64));
 }

@@ -12,6 +12,7 @@ use Rattle.ec20.specs.Flow.{stopped}
 use Rattle.ec20.specs.Step.{World, going, forOf, closeOf, jumpOf, execOf, stepOf}
 use Rattle.ec20.specs.declared.Instr.{Instr}
 use Rattle.ec20.specs.declared.Instr.the-variants.{Nop, Contact, Compare, Join, Branch, Coil, Timer, For, Next, Jump, Label, End, Word}
+use Rattle.ec20.specs.declared.Units.{Units}
 use Rattle.runs.specs.Ends.{ends}
 
 -- from the world w to the world u by END, or by another record
@@ -32,7 +33,7 @@ module _ (p : Program) where
   close-keeps w =
       picked (λ (u : World). u .st .ended ≡ w .st .ended) (ltb 1 (getD (w .loops .left) (w .st .depth - 1) 0)) _ _ (λ _. refl) (λ _. refl)
 
-  exec-met : (e : ℕ) (w : World) (i : Instr) → Met (ends (controlOf i)) w (execOf p e i w)
+  exec-met : (e : Units) (w : World) (i : Instr) → Met (ends (controlOf i)) w (execOf p e i w)
   unfolding ends controlOf execOf jumpOf
   exec-met e w Nop = refl
   exec-met e w (Contact n o) = contact-on n _ (w .st) .ended
@@ -48,10 +49,10 @@ module _ (p : Program) where
   exec-met e w End = refl
   exec-met e w (Word n a b t) = word-on n a b t w .st .ended
 
-  pub step-ends : (e : ℕ) (w : World) → ends (controlOf (p .code (w .st .pc))) ≡ true → stepOf p e w ≡ going w (w .mem) (stopped (w .st))
+  pub step-ends : (e : Units) (w : World) → ends (controlOf (p .code (w .st .pc))) ≡ true → stepOf p e w ≡ going w (w .mem) (stopped (w .st))
   unfolding stepOf
   step-ends e w h = subst (λ (b : Bool). Met b w (execOf p e (p .code (w .st .pc)) w)) h (exec-met e w (p .code (w .st .pc)))
 
-  pub step-keeps : (e : ℕ) (w : World) → ends (controlOf (p .code (w .st .pc))) ≡ false → stepOf p e w .st .ended ≡ w .st .ended
+  pub step-keeps : (e : Units) (w : World) → ends (controlOf (p .code (w .st .pc))) ≡ false → stepOf p e w .st .ended ≡ w .st .ended
   unfolding stepOf
   step-keeps e w h = subst (λ (b : Bool). Met b w (execOf p e (p .code (w .st .pc)) w)) h (exec-met e w (p .code (w .st .pc)))

@@ -13,10 +13,11 @@ use Rattle.ec20.specs.File.{Records}
 use Rattle.ec20.specs.Flow.{stopped}
 use Rattle.ec20.specs.Bits.{withBit}
 use Rattle.ec20.specs.Memory.{Memory, withSM}
-use Rattle.ec20.specs.Scan.{Run, scan, runOf, runScan, answerOf, startState}
+use Rattle.ec20.specs.Scan.{Run, ran, runOf, runScan, answerOf, startState}
 use Rattle.ec20.specs.Step.{World, Open, openLoops, world, stepOf}
 use Rattle.ec20.specs.declared.Machine.{Machine}
 use Rattle.ec20.specs.declared.Scanned.{Scanned}
+use Rattle.ec20.specs.declared.Units.{Units}
 use Rattle.runs.specs.Ends.{ends}
 use Rattle.runs.specs.Ran.{ranFrom}
 use Rattle.runs.proofs.Ending.{step-ends, step-keeps}
@@ -24,16 +25,16 @@ use Rattle.jumps.proofs.Bounds.{sane-start, sane-step}
 use Rattle.jumps.proofs.Within.{end-past}
 use Rattle.jumps.specs.Sane.{Sane}
 
-abbrev ran : ℕ → World → Run
-ran k w = record { steps = k; after = w }
+abbrev stopping : ℕ → World → Run
+stopping k w = record { steps = k; after = w }
 
-module _ (rs : Records) (e : ℕ) where
-  run-done : (j k : ℕ) (w : World) → (w .st .ended ≡ 0 → ⊥) → runOf (programIn rs) e j k w ≡ ran k w
+module _ (rs : Records) (e : Units) where
+  run-done : (j k : ℕ) (w : World) → (w .st .ended ≡ 0 → ⊥) → runOf (programIn rs) e j k w ≡ stopping k w
   unfolding runOf
   run-done zero k w h = refl
   run-done (suc j) k w h = rw (ne-eqb _ _ h) refl
 
-  run-used : (j k : ℕ) (w : World) → j ≡ 0 → runOf (programIn rs) e j k w ≡ ran k w
+  run-used : (j k : ℕ) (w : World) → j ≡ 0 → runOf (programIn rs) e j k w ≡ stopping k w
   unfolding runOf
   run-used j k w z = rw z refl
 
@@ -70,13 +71,13 @@ module _ (rs : Records) (e : ℕ) where
 
     -- a run of which j steps are left, and that makes none of them
     over : (c : Memory) (o : Open) (s : Machine) (j k : ℕ) {a : Scanned} → runOf (programIn rs) e j k (world c o s) ≡ runOf (programIn rs) e n 0 (world c₀ (openLoops (replicate 8 0) (replicate 8 0)) startState)
-        → runOf (programIn rs) e j k (world c o s) ≡ ran k (world c o s) → a ≡ answerOf k s → scan a c ≡ ranFrom (programIn rs) e n c₀
+        → runOf (programIn rs) e j k (world c o s) ≡ stopping k (world c o s) → a ≡ answerOf k s → ran a c ≡ ranFrom (programIn rs) e n c₀
     unfolding ranFrom
     over c o s j k g f q = rw (← g, f, q) refl
 
     -- END is due, and is one step more
     pub going-ended : (c : Memory) (o : Open) (s : Machine) (j : ℕ) {a : Scanned} → Going n c₀ (world c o s) j → 0 < j → ends (controlOf (codeOf rs (s .pc))) ≡ true → a ≡ answerOf (n - j + 1) (stopped s)
-        → scan a c ≡ ranFrom (programIn rs) e n c₀
+        → ran a c ≡ ranFrom (programIn rs) e n c₀
     going-ended c o s j g h z q =
         let w : World = world c o s in
         let v : World = world c o (stopped s) in
@@ -85,12 +86,12 @@ module _ (rs : Records) (e : ℕ) where
         over c o (stopped s) (j - 1) k (more ∙ g .same) (run-done (j - 1) k v (λ y. omega (arith, y))) q
 
     -- all steps are made
-    pub going-used : (c : Memory) (o : Open) (s : Machine) (j : ℕ) {a : Scanned} → Going n c₀ (world c o s) j → j ≤ 0 → a ≡ answerOf n s → scan a c ≡ ranFrom (programIn rs) e n c₀
+    pub going-used : (c : Memory) (o : Open) (s : Machine) (j : ℕ) {a : Scanned} → Going n c₀ (world c o s) j → j ≤ 0 → a ≡ answerOf n s → ran a c ≡ ranFrom (programIn rs) e n c₀
     going-used c o s j g h q =
         let f : n ≡ n - j = omega arith in
         over c o s j (n - j) (g .same) (run-used j (n - j) (world c o s) (omega arith)) (q ∙ ap (λ (k : ℕ). answerOf k s) f)
 
 -- a scan is a run once SM0 is on
-pub ran-scan : (p : Program) (e b : ℕ) (c : Memory) {bits : List ℕ} → bits ≡ withBit (c .sm) 0 1 → ranFrom p e b (withSM c bits) ≡ runScan ec20 p e b c
+pub ran-scan : (p : Program) (e : Units) (b : ℕ) (c : Memory) {bits : List ℕ} → bits ≡ withBit (c .sm) 0 1 → ranFrom p e b (withSM c bits) ≡ runScan ec20 p e b c
 unfolding ranFrom runScan
 ran-scan p e b c g = rw g refl

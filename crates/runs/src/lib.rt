@@ -4,7 +4,7 @@ ghost use Rattle.ec20.specs.Control.{controlOf};
 ghost use Rattle.ec20.specs.File.{recordsFrom};
 ghost use Rattle.ec20.specs.Flow.{stopped};
 ghost use Rattle.ec20.specs.Memory.{memory};
-ghost use Rattle.ec20.specs.Scan.{startState, answerOf, scan};
+ghost use Rattle.ec20.specs.Scan.{startState, answerOf, ran};
 ghost use Rattle.records.specs.Ranges.{Held};
 ghost use Rattle.runs.specs.Ends.{ends};
 ghost use Rattle.runs.specs.Ran.{ranFrom, reportOf};
@@ -15,6 +15,7 @@ use ec20::Control;
 use ec20::Machine;
 use ec20::Report;
 use ec20::Scanned;
+use ec20::Units;
 
 // A scan starts with flow absent and both stacks empty, at record 0.
 fn start() -> Machine
@@ -86,7 +87,7 @@ pub fn run(
     first: usize,
     count: usize,
     goes: &[usize; 2000],
-    e: usize,
+    u: Units,
     budget: usize,
     x: &[u8],
     y: &mut [u8],
@@ -96,8 +97,8 @@ pub fn run(
     d: &mut [i16],
     tv: &mut [i16],
 ) -> Scanned
-    requires { ⌜ Running (now rows) (now f) first count (now goes) e ⌝ }
-    ensures { λ r. ⌜ scan r (memory (now (x .entry)) (now (y .exit)) (now (m .exit)) (now (sm .exit)) (now (t .exit)) (now (d .exit)) (now (tv .exit))) ≡ ranFrom (programIn (recordsFrom (now (f .entry)) first count)) e budget (memory (now (x .entry)) (now (y .entry)) (now (m .entry)) (now (sm .entry)) (now (t .entry)) (now (d .entry)) (now (tv .entry))) ⌝ }
+    requires { ⌜ Running (now rows) (now f) first count (now goes) u ⌝ }
+    ensures { λ r. ⌜ ran r (memory (now (x .entry)) (now (y .exit)) (now (m .exit)) (now (sm .exit)) (now (t .exit)) (now (d .exit)) (now (tv .exit))) ≡ ranFrom (programIn (recordsFrom (now (f .entry)) first count)) u budget (memory (now (x .entry)) (now (y .entry)) (now (m .entry)) (now (sm .entry)) (now (t .entry)) (now (d .entry)) (now (tv .entry))) ⌝ }
 {
     let mut left = [0usize; 8];
     let mut back = [0usize; 8];
@@ -114,7 +115,7 @@ pub fn run(
             first,
             count,
             goes,
-            e,
+            u,
             x,
             y,
             m,

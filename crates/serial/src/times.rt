@@ -1,5 +1,5 @@
 // Moments are milliseconds of a clock. One that went back, or tells nothing, passes no time.
-ghost use Prim.Native.Nat.{_+_, _*_, _-_, _/_, _≤_, min};
+ghost use Prim.Native.Nat.{_+_, _-_, _≤_, min};
 ghost use mathlib.Core.Path.{_≡_};
 
 // How many milliseconds passed from one moment to another.
@@ -17,19 +17,19 @@ fn least(a: u64, b: u64) -> u64
     if a < b { a } else { b }
 }
 
-// Units of 100 ms that passed, at most 32767, and the moment up to which they are counted: what is left counts for the next scan.
+// The milliseconds that passed, as many as a scan takes at most, and the moment up to which they are counted: what is left counts for the next scan.
 pub struct Passed {
-    pub units: u32,
+    pub elapsed: u32,
     pub until: u64,
 }
 
-pub fn units(from: u64, to: u64) -> Passed
-    ensures { λ r. ⌜ r .units ≡ min ((to - from) / 100) 32767 ⌝ }
-    ensures { λ r. ⌜ r .until ≡ from + r .units * 100 ⌝ }
+pub fn since(from: u64, to: u64) -> Passed
+    ensures { λ r. ⌜ r .elapsed ≡ min (to - from) 10000 ⌝ }
+    ensures { λ r. ⌜ r .until ≡ from + r .elapsed ⌝ }
 {
-    let n = least(between(from, to) / 100, 32767);
+    let n = least(between(from, to), 10000);
     Passed {
-        units: n as u32,
-        until: from + n * 100,
+        elapsed: n as u32,
+        until: from + n,
     }
 }

@@ -27,7 +27,7 @@ fn turns(
     f: &[u8],
     p: Ready,
     goes: &[usize; 2000],
-    image: &mut [u8; 16890],
+    image: &mut [u8; 16892],
     held: &mut [u8],
     w: Wanted,
     begun: State,
@@ -49,7 +49,7 @@ fn turns(
 }
 
 // The memory file is replaced, and then it is told what happened.
-fn tell(call: &[u8], s: State, image: &[u8; 16890], out: i32, err: i32) -> Outcome {
+fn tell(call: &[u8], s: State, image: &[u8; 16892], out: i32, err: i32) -> Outcome {
     if files::replace(text::word(call, 2), image, err) {
         let to = texts::say(out, texts::SERVED, s.scans, s.requests, s.replies, s.silent);
         return results::answered(0, true, to, err);
@@ -63,7 +63,7 @@ fn serve(
     f: &[u8],
     p: Ready,
     goes: &[usize; 2000],
-    image: &mut [u8; 16890],
+    image: &mut [u8; 16892],
     w: Wanted,
     out: i32,
     err: i32,
@@ -92,22 +92,31 @@ fn serve(
     tell(call, s, image, out, err)
 }
 
-// 1 to 8 are told of the program file, word 1; 9 and 16 of the memory file, word 2, as of a request over it.
-fn refuse(call: &[u8], f: &[u8], number: usize, record: usize, out: i32, err: i32) -> Outcome {
-    if number < 9 {
-        return report::refused(text::word(call, 1), f, number, record, out, err);
-    }
-    report::refused_memory(text::word(call, 2), number, record, out, err)
+// 1 to 8 are told of the program file, word 1; 9 and 16 of the memory file, word 2, which has so many bytes.
+fn refuse(
+    call: &[u8],
+    f: &[u8],
+    number: usize,
+    record: usize,
+    size: usize,
+    out: i32,
+    err: i32,
+) -> Outcome {
+    let word = text::word(call, 1 + number / 9);
+    let o = report::refused(word, f, number, record, out, err);
+    report::of_before(number, size, err);
+    o
 }
 
-// After the first scan, by which the program and the size of the memory file are judged; then the station is.
+// After the first scan, by which the program and the memory file, of so many bytes, are judged; then the station is.
 fn judged(
     call: &[u8],
     f: &[u8],
     p: Ready,
     goes: &[usize; 2000],
     s: Scanned,
-    image: &mut [u8; 16890],
+    image: &mut [u8; 16892],
+    size: usize,
     w: Wanted,
     out: i32,
     err: i32,
@@ -116,12 +125,12 @@ fn judged(
     requires { ⌜ Goes (now f) p (now goes) ⌝ }
 {
     match s {
-        Scanned::Refused { number, record } => refuse(call, f, number, record, out, err),
+        Scanned::Refused { number, record } => refuse(call, f, number, record, size, out, err),
         _ => {
             if (1 <= w.station) & (w.station <= 247) {
                 return serve(call, f, p, goes, image, w, out, err);
             }
-            refuse(call, f, 16, 0, out, err)
+            refuse(call, f, 16, 0, size, out, err)
         }
     }
 }
@@ -141,7 +150,7 @@ fn run_loaded(
     let p = engine::make_ready(f);
     let goes = engine::look_up(f, p);
     let s = memory_scans::scan_ready(p, &goes, f, &mut image, size, 0, turn::BUDGET);
-    judged(call, f, p, &goes, s, &mut image, w, out, err)
+    judged(call, f, p, &goes, s, &mut image, size, w, out, err)
 }
 
 pub fn run(call: &[u8], out: i32, err: i32) -> Outcome {

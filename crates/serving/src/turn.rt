@@ -36,7 +36,7 @@ fn scanned(
     f: &[u8],
     p: Ready,
     goes: &[usize; 2000],
-    image: &mut [u8; 16890],
+    image: &mut [u8; 16892],
     s0: State,
     moment: u64,
 ) -> State
@@ -44,8 +44,8 @@ fn scanned(
     requires { ⌜ Goes (now f) p (now goes) ⌝ }
 {
     let mut s = s0;
-    let n = times::units(s.counted, moment);
-    memory_scans::scan_ready(p, goes, f, image, 16890, n.units, BUDGET);
+    let n = times::since(s.counted, moment);
+    memory_scans::scan_ready(p, goes, f, image, 16892, n.elapsed, BUDGET);
     s.counted = n.until;
     s.scans = one_more(s.scans);
     s
@@ -96,18 +96,18 @@ fn sent(reply: &[u8], n: usize, s0: State) -> State {
 }
 
 // The frame is answered. The station was judged, so that no call is refused.
-fn answered(image: &mut [u8; 16890], frame: &[u8], w: Wanted, s0: State) -> State {
+fn answered(image: &mut [u8; 16892], frame: &[u8], w: Wanted, s0: State) -> State {
     let mut s = s0;
     s.requests = one_more(s.requests);
     let mut reply = state::reply();
-    match answers::in_image(image, 16890, w.station, frame, &mut reply) {
+    match answers::in_image(image, 16892, w.station, frame, &mut reply) {
         Answered::Reply { length } => sent(&reply, length, s),
         _ => silent(s),
     }
 }
 
 // The frame is the first k bytes held, which are then held no more.
-fn taken(image: &mut [u8; 16890], held: &mut [u8], k: usize, w: Wanted, s0: State) -> State {
+fn taken(image: &mut [u8; 16892], held: &mut [u8], k: usize, w: Wanted, s0: State) -> State {
     if k > held.len() {
         return s0;
     }
@@ -142,7 +142,7 @@ fn shown(w: Wanted, s0: State, now: u64, err: i32) -> State {
 }
 
 // After the line was read: the answer to a frame, or a rest.
-fn served(image: &mut [u8; 16890], held: &mut [u8], w: Wanted, s: State, now: u64) -> State {
+fn served(image: &mut [u8; 16892], held: &mut [u8], w: Wanted, s: State, now: u64) -> State {
     let k = frame(held, w, s, now);
     if k > 0 {
         return taken(image, held, k, w, s);
@@ -154,7 +154,7 @@ pub fn turn(
     f: &[u8],
     p: Ready,
     goes: &[usize; 2000],
-    image: &mut [u8; 16890],
+    image: &mut [u8; 16892],
     held: &mut [u8],
     w: Wanted,
     s0: State,

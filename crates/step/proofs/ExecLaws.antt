@@ -10,8 +10,9 @@ use Rattle.ec20.specs.declared.Instr.{Instr}
 use Rattle.ec20.specs.declared.Instr.the-variants.{Nop, Contact, Compare, Join, Branch, Coil, Timer, For, Next, Jump, Label, End, Word}
 use Rattle.ec20.specs.declared.Machine.{Machine}
 use Rattle.ec20.specs.declared.Operand.{Operand}
+use Rattle.ec20.specs.declared.Units.{Units}
 
-module _ (p : Program) (e : ℕ) where
+module _ (p : Program) (e : Units) where
   -- an arm of the match: the instruction is j there
   in-arm : (w : World) {j : Instr} {v : World} → p .code (w .st .pc) ≡ j → v ≡ execOf p e j w → v ≡ stepOf p e w
   unfolding stepOf

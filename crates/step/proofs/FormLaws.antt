@@ -23,6 +23,7 @@ use Rattle.instructions.proofs.Rows.{everyBelow, at-every}
 use Rattle.ec20.specs.declared.Instr.the-variants.{Nop, Contact, Compare, Join, Branch, Coil, Timer, For, Next, Jump, Label, End, Word}
 use Rattle.ec20.specs.declared.Machine.{Machine}
 use Rattle.ec20.specs.declared.Operand.{Operand}
+use Rattle.ec20.specs.declared.Units.{Units}
 use Rattle.step.specs.Ready.{Running, Due, Left}
 use Rattle.outcomes.specs.Done.{WordAt, secondOf, targetOf}
 
@@ -189,7 +190,7 @@ module _ {f : List ℕ} {first count n i : ℕ} {s : Machine} (d : Due f first c
   unfolding instrBy
   plain l w h = code ∙ rw (none n (d .known) l w h) refl
 
-  module _ {rows : List (List ℕ)} {goes : List ℕ} {e : ℕ} (r : Running rows f first count goes e) where
+  module _ {rows : List (List ℕ)} {goes : List ℕ} {u : Units} (r : Running rows f first count goes u) where
     -- where the record due goes is looked up
     goes-there : getD goes (s .pc) 0 ≡ goesTo (controlsOf (programIn (recordsFrom f first count))) count (s .pc) (controlsOf (programIn (recordsFrom f first count)) (s .pc))
     unfolding Prepared

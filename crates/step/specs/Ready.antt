@@ -7,7 +7,9 @@ use lib.ListN.{length}
 use Rattle.ec20.specs.Code.{programIn}
 use Rattle.ec20.specs.Control.{controlsOf}
 use Rattle.ec20.specs.File.{recordsFrom, byteAt}
+use Rattle.ec20.specs.Timers.{Few}
 use Rattle.ec20.specs.declared.Machine.{Machine}
+use Rattle.ec20.specs.declared.Units.{Units}
 use Rattle.instructions.specs.Cells.{cells}
 use Rattle.jumps.specs.Prepared.{Prepared}
 use Rattle.records.specs.Ranges.{Held}
@@ -16,13 +18,13 @@ use Rattle.records.specs.Ranges.{Held}
 abbrev pub Known : List ℕ → ℕ → ℕ → Type 0
 Known f first count = (k : ℕ) → k < count → byteAt f (first + 20 * k) < 56
 
--- of a run: the instruction table, `count` records from the byte `first` on, whose numbers the instruction table has, where they go, the elapsed units
-pub record Running (rows : List (List ℕ)) (f : List ℕ) (first count : ℕ) (goes : List ℕ) (e : ℕ) : Type 0 where
+-- of a run: the instruction table, `count` records from the byte `first` on, whose numbers the instruction table has, where they go, the units that its timers are given
+pub record Running (rows : List (List ℕ)) (f : List ℕ) (first count : ℕ) (goes : List ℕ) (u : Units) : Type 0 where
   pub table : rows ≡ cells
   pub held : Held (length f) first count
   pub prepared : Prepared (controlsOf (programIn (recordsFrom f first count))) count goes
   pub known : Known f first count
-  pub elapsed : e ≤ 32767
+  pub few : Few u
 
 -- of the record due: it is one of the program's, it stands at byte i, and its number is n, which the table has
 pub record Due (f : List ℕ) (first count n i : ℕ) (s : Machine) : Type 0 where

@@ -7,12 +7,13 @@ ghost use Rattle.ec20.specs.File.{recordsFrom};
 ghost use Rattle.ec20.specs.Step.{Open, openLoops, world, stepOf};
 ghost use Rattle.instructions.specs.Cells.{cells};
 ghost use Rattle.step.specs.Ready.{Running, Due, Left};
-ghost use Rattle.ec20.specs.Timers.{timerOf};
+ghost use Rattle.ec20.specs.Timers.{Few, timerOf};
 ghost use lib.IntN.{ℤ};
 ghost use mathlib.Core.List.{List};
 ghost use mathlib.Core.Path.{_≡_};
 use ec20::Machine;
 use ec20::Operand;
+use ec20::Units;
 
 // LD=, LD>, LD<: the first source against the second, of w bits each.
 fn compare<'a>(
@@ -45,18 +46,11 @@ fn coil(n: usize, o: Operand, y: &mut [u8], m: &mut [u8], s: Machine) -> Machine
 }
 
 // TON.
-fn timer(
-    elapsed: usize,
-    i: usize,
-    constant: usize,
-    t: &mut [u8],
-    tv: &mut [i16],
-    s: Machine,
-) -> Machine
-    requires { ⌜ (s .pc < 2 ^ 63) × (elapsed ≤ 32767) ⌝ }
-    ensures { λ q. ⌜ ((x y m sm : List ℕ) (d : List ℤ) (o : Open) → world (memory x y m sm (now (t .exit)) d (now (tv .exit))) o q ≡ world (timerOf elapsed i constant (isOn s) (memory x y m sm (now (t .entry)) d (now (tv .entry)))) o (acted s)) ⌝ }
+fn timer(u: Units, i: usize, constant: usize, t: &mut [u8], tv: &mut [i16], s: Machine) -> Machine
+    requires { ⌜ (s .pc < 2 ^ 63) × Few u ⌝ }
+    ensures { λ q. ⌜ ((x y m sm : List ℕ) (d : List ℤ) (o : Open) → world (memory x y m sm (now (t .exit)) d (now (tv .exit))) o q ≡ world (timerOf u i constant (isOn s) (memory x y m sm (now (t .entry)) d (now (tv .entry)))) o (acted s)) ⌝ }
 {
-    operands::timer(elapsed, i, constant, flow::is_on(s), t, tv);
+    operands::timer(u, i, constant, flow::is_on(s), t, tv);
     flow::act(s)
 }
 
@@ -68,7 +62,7 @@ fn rest(
     f: &[u8],
     first: usize,
     count: usize,
-    e: usize,
+    u: Units,
     x: &[u8],
     y: &mut [u8],
     m: &mut [u8],
@@ -80,7 +74,7 @@ fn rest(
     requires { ⌜ Due (now f) first count n i s ⌝ }
     requires { ⌜ Left n ⌝ }
     requires { ⌜ now rows ≡ cells ⌝ }
-    ensures { λ q. ⌜ ((t : List ℕ) (o : Open) → world (memory (now (x .entry)) (now (y .exit)) (now (m .exit)) (now (sm .exit)) t (now (d .exit)) (now (tv .entry))) o q ≡ stepOf (programIn (recordsFrom (now (f .entry)) first count)) e (world (memory (now (x .entry)) (now (y .entry)) (now (m .entry)) (now (sm .entry)) t (now (d .entry)) (now (tv .entry))) o s)) ⌝ }
+    ensures { λ q. ⌜ ((t : List ℕ) (o : Open) → world (memory (now (x .entry)) (now (y .exit)) (now (m .exit)) (now (sm .exit)) t (now (d .exit)) (now (tv .entry))) o q ≡ stepOf (programIn (recordsFrom (now (f .entry)) first count)) u (world (memory (now (x .entry)) (now (y .entry)) (now (m .entry)) (now (sm .entry)) t (now (d .entry)) (now (tv .entry))) o s)) ⌝ }
 {
     let form = instructions::form_at(rows, n);
     if form >= 12 {
@@ -105,7 +99,7 @@ fn exec(
     first: usize,
     count: usize,
     goes: &[usize; 2000],
-    e: usize,
+    u: Units,
     x: &[u8],
     y: &mut [u8],
     m: &mut [u8],
@@ -117,9 +111,9 @@ fn exec(
     back: &mut [usize; 8],
     s: Machine,
 ) -> Machine
-    requires { ⌜ Running (now rows) (now f) first count (now goes) e ⌝ }
+    requires { ⌜ Running (now rows) (now f) first count (now goes) u ⌝ }
     requires { ⌜ Due (now f) first count n i s ⌝ }
-    ensures { λ q. ⌜ world (memory (now (x .entry)) (now (y .exit)) (now (m .exit)) (now (sm .exit)) (now (t .exit)) (now (d .exit)) (now (tv .exit))) (openLoops (now (left .exit)) (now (back .exit))) q ≡ stepOf (programIn (recordsFrom (now (f .entry)) first count)) e (world (memory (now (x .entry)) (now (y .entry)) (now (m .entry)) (now (sm .entry)) (now (t .entry)) (now (d .entry)) (now (tv .entry))) (openLoops (now (left .entry)) (now (back .entry))) s) ⌝ }
+    ensures { λ q. ⌜ world (memory (now (x .entry)) (now (y .exit)) (now (m .exit)) (now (sm .exit)) (now (t .exit)) (now (d .exit)) (now (tv .exit))) (openLoops (now (left .exit)) (now (back .exit))) q ≡ stepOf (programIn (recordsFrom (now (f .entry)) first count)) u (world (memory (now (x .entry)) (now (y .entry)) (now (m .entry)) (now (sm .entry)) (now (t .entry)) (now (d .entry)) (now (tv .entry))) (openLoops (now (left .entry)) (now (back .entry))) s) ⌝ }
 {
     match n {
         0 => flow::go_on(s),
@@ -156,7 +150,7 @@ fn exec(
         13 => coil(13, records::operand_at(f, i + 2), y, m, s),
         14 => coil(14, records::operand_at(f, i + 2), y, m, s),
         18 => timer(
-            e,
+            u,
             records::u32_at(f, i + 4),
             records::u32_at(f, i + 10),
             t,
@@ -168,7 +162,7 @@ fn exec(
         21 => jumps::jump(goes, s),
         22 => flow::go_to(s, s.pc + 1, s.depth),
         23 => flow::stop(s),
-        _ => rest(rows, n, i, f, first, count, e, x, y, m, sm, d, tv, s),
+        _ => rest(rows, n, i, f, first, count, u, x, y, m, sm, d, tv, s),
     }
 }
 
@@ -179,7 +173,7 @@ pub fn step(
     first: usize,
     count: usize,
     goes: &[usize; 2000],
-    e: usize,
+    u: Units,
     x: &[u8],
     y: &mut [u8],
     m: &mut [u8],
@@ -191,9 +185,9 @@ pub fn step(
     back: &mut [usize; 8],
     s: Machine,
 ) -> Machine
-    requires { ⌜ Running (now rows) (now f) first count (now goes) e ⌝ }
+    requires { ⌜ Running (now rows) (now f) first count (now goes) u ⌝ }
     requires { ⌜ (s .depth ≤ 8) × (s .pc < 2 ^ 63) ⌝ }
-    ensures { λ q. ⌜ world (memory (now (x .entry)) (now (y .exit)) (now (m .exit)) (now (sm .exit)) (now (t .exit)) (now (d .exit)) (now (tv .exit))) (openLoops (now (left .exit)) (now (back .exit))) q ≡ stepOf (programIn (recordsFrom (now (f .entry)) first count)) e (world (memory (now (x .entry)) (now (y .entry)) (now (m .entry)) (now (sm .entry)) (now (t .entry)) (now (d .entry)) (now (tv .entry))) (openLoops (now (left .entry)) (now (back .entry))) s) ⌝ }
+    ensures { λ q. ⌜ world (memory (now (x .entry)) (now (y .exit)) (now (m .exit)) (now (sm .exit)) (now (t .exit)) (now (d .exit)) (now (tv .exit))) (openLoops (now (left .exit)) (now (back .exit))) q ≡ stepOf (programIn (recordsFrom (now (f .entry)) first count)) u (world (memory (now (x .entry)) (now (y .entry)) (now (m .entry)) (now (sm .entry)) (now (t .entry)) (now (d .entry)) (now (tv .entry))) (openLoops (now (left .entry)) (now (back .entry))) s) ⌝ }
 {
     if count <= s.pc {
         return flow::stop(s);
@@ -208,7 +202,7 @@ pub fn step(
         first,
         count,
         goes,
-        e,
+        u,
         x,
         y,
         m,

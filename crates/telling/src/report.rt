@@ -87,7 +87,7 @@ pub fn refused(
 }
 
 // Of an exchange, or of a request. The place of an exchange is named in the call, so that its 14 means another thing, and neither takes elapsed
-// units.
+// milliseconds or looks at the leftovers.
 pub fn refused_memory(path: &[u8], number: usize, record: usize, out: i32, err: i32) -> Outcome
     ensures { λ r. ⌜ Answers 1 false r ⌝ }
 {
@@ -104,6 +104,13 @@ pub fn refused_memory(path: &[u8], number: usize, record: usize, out: i32, err: 
     }
     texts::say(to, means, 0, 0, 0, 0);
     outcome
+}
+
+// After a refusal: where it is 9 of a memory file of before, with so many bytes, what it needs.
+pub fn of_before(number: usize, size: usize, err: i32) {
+    if (number == 9) & (size == 16890) {
+        texts::say(err, texts::OF_BEFORE, 0, 0, 0, 0);
+    }
 }
 
 // A record of the mixer's program reaches over the edge of the block.

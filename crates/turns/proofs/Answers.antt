@@ -42,10 +42,10 @@ pub five-same : (a b : Answer) → a ≡ b → sameFive a b ≡ true
 five-same a b e = subst (λ (x : Answer). sameFive a x ≡ true) e (with-itself a)
 
 pub alike-of : (t : Turn) (r : Bool) → (r ≡ true → t .old ≡ t .new) × (t .old ≡ t .new → r ≡ true)
-    → ((r && eqb (t .apart) 16890) ≡ true → Alike t) × (Alike t → (r && eqb (t .apart) 16890) ≡ true)
+    → ((r && eqb (t .apart) 16892) ≡ true → Alike t) × (Alike t → (r && eqb (t .apart) 16892) ≡ true)
 alike-of t r h = (
-  λ e. let q = both r (eqb (t .apart) 16890) e in record { answers = h .0 (q .0); memories = eqb-true _ _ (q .1) },
-  λ a. rw (h .1 (a .answers), eq-eqb (t .apart) 16890 (a .memories)) refl,
+  λ e. let q = both r (eqb (t .apart) 16892) e in record { answers = h .0 (q .0); memories = eqb-true _ _ (q .1) },
+  λ a. rw (h .1 (a .answers), eq-eqb (t .apart) 16892 (a .memories)) refl,
 )
 
 -- two files that are the same up to byte i, and there

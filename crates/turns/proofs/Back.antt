@@ -6,7 +6,7 @@ use native.Mathlib.Omega.{arith}
 use lib.ListN.{length, take, drop, drop-of-length-le}
 use lib.Seq.{take-length}
 use Rattle.ec20.specs.Move.{Block}
-use Rattle.image.specs.Image.{memoryOf, imageOf}
+use Rattle.image.specs.Image.{plantOf, imageOf}
 use Rattle.memories.specs.Images.{exchangeIn}
 use Rattle.turns.specs.Turns.{FirstApart}
 
@@ -20,7 +20,7 @@ copied b z e =
     ap₂ (λ (x y : List ℕ). x ++ y) (take-length b) (drop-of-length-le z {i = length b} (omega (arith, e))) ∙ nothing-after b
 
 pub back-apart : (l : Block) (q : ℕ) {a back : List ℕ} (b c : List ℕ) {r : ℕ} → FirstApart a back r
-    → back ≡ imageOf (exchangeIn 16890 l q (memoryOf c) .mem) → c ≡ b
-    → FirstApart a (imageOf (exchangeIn 16890 l q (memoryOf b) .mem)) r
+    → back ≡ imageOf (exchangeIn 16892 l q (plantOf c) .plant) → c ≡ b
+    → FirstApart a (imageOf (exchangeIn 16892 l q (plantOf b) .plant)) r
 back-apart l q {a} b c {r} f e same =
-    subst (λ (x : List ℕ). FirstApart a x r) (e ∙ ap (λ (x : List ℕ). imageOf (exchangeIn 16890 l q (memoryOf x) .mem)) same) f
+    subst (λ (x : List ℕ). FirstApart a x r) (e ∙ ap (λ (x : List ℕ). imageOf (exchangeIn 16892 l q (plantOf x) .plant)) same) f

@@ -6,7 +6,8 @@ use native.Mathlib.Omega.{arith}
 use lib.ListN.{length, take, drop, set, length-append}
 use lib.Seq.{take-at, drop-append-add, drop-drop}
 use Rattle.ec20.specs.Memory.{memory}
-use Rattle.image.specs.Image.{part, memoryOf}
+use Rattle.ec20.specs.Plant.{Plant, plant}
+use Rattle.image.specs.Image.{part, memoryOf, plantOf}
 use Rattle.modbus.proofs.BufferLaws.{sent-none, sent-more}
 use Rattle.modbus.specs.Buffer.{sent}
 use Rattle.turns.specs.Turns.{turnedBy, stateAfter, drawn}
@@ -58,10 +59,13 @@ first : (xs b : List ℕ) → length xs ≡ 32 → part 0 32 (sent xs b) ≡ xs
 unfolding sent
 first xs b e = take-at xs (drop (length xs) b) 32 e
 
+-- memory and leftovers with another X
+abbrev pub withInputs : List ℕ → Plant → Plant
+withInputs xs p = let c = p .mem in plant (memory xs (c .y) (c .m) (c .sm) (c .t) (c .d) (c .tv)) (p .rest)
+
 -- a memory file with another X
-pub with-inputs : (xs b : List ℕ) → length xs ≡ 32
-    → memoryOf (sent xs b) ≡ memory xs (memoryOf b .y) (memoryOf b .m) (memoryOf b .sm) (memoryOf b .t) (memoryOf b .d) (memoryOf b .tv)
-unfolding memoryOf
+pub with-inputs : (xs b : List ℕ) → length xs ≡ 32 → plantOf (sent xs b) ≡ withInputs xs (plantOf b)
+unfolding plantOf memoryOf
 with-inputs xs b e =
     rw (
       first xs b e,
@@ -71,4 +75,5 @@ with-inputs xs b e =
       past xs b 346 32 (omega (arith, e)),
       past xs b 378 16000 (omega (arith, e)),
       past xs b 16378 512 (omega (arith, e)),
+      past xs b 16890 2 (omega (arith, e)),
     ) refl

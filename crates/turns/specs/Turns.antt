@@ -22,16 +22,16 @@ answerOf (Ended r) = record { kind = 1; steps = r .steps; stop = r .stop; error 
 answerOf (Watchdog r) = record { kind = 2; steps = r .steps; stop = r .stop; error = r .error; at = r .at }
 answerOf (Refused m k) = record { kind = 0; steps = m; stop = k; error = 0; at = 0 }
 
--- r is the first byte at which two memory files differ, 16,890 where none does
+-- r is the first byte at which two memory files differ, 16,892 where none does
 pub record FirstApart (a b : List ℕ) (r : ℕ) : Type 0 where
-  pub inside : r ≤ 16890
+  pub inside : r ≤ 16892
   pub same : (i : ℕ) → i < r → getD a i 0 ≡ getD b i 0
-  pub other : r < 16890 → getD a r 0 ≡ getD b r 0 → ⊥
+  pub other : r < 16892 → getD a r 0 ≡ getD b r 0 → ⊥
 
--- Both programs answered the same, and with block and place exchanged no byte of their memories differs.
+-- Both programs answered the same, and with block and place exchanged no byte of their memory files differs: of no table and no leftover.
 pub record Alike (t : Turn) : Type 0 where
   pub answers : t .old ≡ t .new
-  pub memories : t .apart ≡ 16890
+  pub memories : t .apart ≡ 16892
 
 -- ---- the inputs of a trial: from s on, s becomes (1664525 s + 1013904223) modulo 2^32, and the byte is the highest of the four of s
 

@@ -1,7 +1,7 @@
 // The bytes of memory files: compared, and their inputs drawn.
 ghost use Prim.Native.Nat.{_≤_};
 ghost use Rattle.ec20.specs.Move.{block};
-ghost use Rattle.image.specs.Image.{memoryOf, imageOf};
+ghost use Rattle.image.specs.Image.{plantOf, imageOf};
 ghost use Rattle.memories.specs.Images.{exchangeIn};
 ghost use Rattle.modbus.specs.Buffer.{sent};
 ghost use Rattle.turns.specs.Turns.{FirstApart, turnedBy, stateAfter, drawn};
@@ -11,12 +11,12 @@ use memories::exchanges;
 use memories::exchanges::Way;
 use memories::tables;
 
-// The first byte at which they differ; 16890 where none does.
-fn first_apart(a: &[u8; 16890], b: &[u8; 16890]) -> usize
+// The first byte at which they differ; 16892 where none does.
+fn first_apart(a: &[u8; 16892], b: &[u8; 16892]) -> usize
     ensures { λ r. ⌜ FirstApart (now (a .entry)) (now (b .entry)) r ⌝ }
 {
     let mut i = 0;
-    while i < 16890 {
+    while i < 16892 {
         if a[i] != b[i] {
             return i;
         }
@@ -26,12 +26,12 @@ fn first_apart(a: &[u8; 16890], b: &[u8; 16890]) -> usize
 }
 
 // The same of memory a, and memory b with block and place exchanged back.
-pub fn apart(a: &[u8; 16890], b: &[u8; 16890], w: Way) -> usize
-    ensures { λ r. ⌜ FirstApart (now (a .entry)) (imageOf (exchangeIn 16890 (block (w .start) (w .length)) (w .place) (memoryOf (now (b .entry))) .mem)) r ⌝ }
+pub fn apart(a: &[u8; 16892], b: &[u8; 16892], w: Way) -> usize
+    ensures { λ r. ⌜ FirstApart (now (a .entry)) (imageOf (exchangeIn 16892 (block (w .start) (w .length)) (w .place) (plantOf (now (b .entry))) .plant)) r ⌝ }
 {
     let mut back = tables::image();
     bytes::copy(b, &mut back);
-    exchanges::in_image(&mut back, 16890, w);
+    exchanges::in_image(&mut back, 16892, w);
     first_apart(a, &back)
 }
 
@@ -62,7 +62,7 @@ fn draw(a: &mut [u8], b: &mut [u8], state: u32) -> u32
 }
 
 // The inputs of a scan, the same for both memories: one draw for each byte of X. Answers the state after them.
-pub fn draw_inputs(a: &mut [u8; 16890], b: &mut [u8; 16890], state: u32) -> u32
+pub fn draw_inputs(a: &mut [u8; 16892], b: &mut [u8; 16892], state: u32) -> u32
     ensures { λ r. ⌜ r ≡ stateAfter 32 state ⌝ }
     ensures { λ _. ⌜ now (a .exit) ≡ sent (drawn 32 state) (now (a .entry)) ⌝ }
     ensures { λ _. ⌜ now (b .exit) ≡ sent (drawn 32 state) (now (b .entry)) ⌝ }

@@ -13,7 +13,7 @@ pub struct Answer {
     pub at: usize,
 }
 
-// apart: the first byte of the memory file at which the memories differ after exchange; 16890 where none does.
+// apart: the first byte of the memory file at which the memories differ after exchange; 16892 where none does.
 pub struct Turn {
     pub old: Answer,
     pub new: Answer,
@@ -64,5 +64,5 @@ pub fn is_alike(t: Turn) -> bool
 {
     let old = t.old;
     let new = t.new;
-    same_answer(old, new) & (t.apart == 16890)
+    same_answer(old, new) & (t.apart == 16892)
 }

@@ -1,6 +1,6 @@
 // Runs the calls of the file `calls`, a call a line, with both descriptors at standard output, and tells what came of each. The first word of a line
-// names the file of which `it` is a copy before the call, the second the file that `it` is like after it; the others are the call. The first is - where
-// the call changes nothing, and closed where its answer is lost.
+// names the file of which `it` is a copy before the call, the second the file that `it` is like after it, or like with two bytes more: the leftovers of a
+// slave, whose time is the clock's; the others are the call. The first is - where the call changes nothing, and closed where its answer is lost.
 mod lines;
 mod room;
 
@@ -32,6 +32,10 @@ fn tell_it(before: &[u8], after: &[u8], fd: i32) {
     } else if room::alike(b"it", after) {
         say(b", it as ");
         say(after);
+    } else if room::is_timed(b"it", after) {
+        say(b", it as ");
+        say(after);
+        say(b" with leftovers");
     } else {
         say(b", it is neither");
     }

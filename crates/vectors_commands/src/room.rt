@@ -36,6 +36,24 @@ pub fn alike(a: &[u8], b: &[u8]) -> bool {
     check::same(&one[..n], &two[..m])
 }
 
+// The one has the bytes of the other, and two more.
+fn longer(one: &[u8], two: &[u8]) -> bool {
+    if one.len() < 2 {
+        return false;
+    }
+    let n = one.len() - 2;
+    check::same(&one[0..n], two)
+}
+
+// So it is with two files.
+pub fn is_timed(a: &[u8], b: &[u8]) -> bool {
+    let mut one = io::large_buffer();
+    let mut two = io::large_buffer();
+    let n = load(a, &mut one);
+    let m = load(b, &mut two);
+    longer(&one[..n], &two[..m])
+}
+
 // Whether the file at the path is the one that the descriptor, which appends, has open: it has one byte more then.
 pub fn is_at(path: &[u8], fd: i32) -> bool {
     let mut buf = io::large_buffer();

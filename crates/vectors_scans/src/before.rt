@@ -15,7 +15,7 @@ pub fn patch(fd: i32, b: &mut [u8]) {
 }
 
 // Rule 6: the image as the case before left it.
-pub fn image(fd: i32, b: &mut [u8; 16890], rule: u8) {
+pub fn image(fd: i32, b: &mut [u8; 16892], rule: u8) {
     let seed = reading::u32_from(fd);
     drawing::fill(b, 378, rule, seed as u32);
     patch(fd, b);

@@ -58,11 +58,12 @@ fn call(
     t: &mut [u8],
     d: &mut [i16],
     tv: &mut [i16],
+    rest: &mut [u8],
 ) -> Scanned {
     if a.plain {
-        return engine::scan_unbudgeted(f, x, y, m, sm, t, d, tv, a.elapsed);
+        return engine::scan_unbudgeted(f, x, y, m, sm, t, d, tv, rest, a.elapsed);
     }
-    engine::scan_file(f, x, y, m, sm, t, d, tv, a.elapsed, a.budget)
+    engine::scan_file(f, x, y, m, sm, t, d, tv, rest, a.elapsed, a.budget)
 }
 
 // Of each table as much is lent as the case says.
@@ -76,6 +77,7 @@ fn scan(
     t: &mut [u8],
     d: &mut [i16],
     tv: &mut [i16],
+    rest: &mut [u8],
 ) -> Scanned {
     let xs = lent::size(a, 1, 32, x.len());
     let ys = lent::size(a, 2, 32, y.len());
@@ -84,6 +86,7 @@ fn scan(
     let ts = lent::size(a, 5, 32, t.len());
     let ds = lent::size(a, 6, 8000, d.len());
     let tvs = lent::size(a, 7, 256, tv.len());
+    let rests = lent::size(a, 8, 2, rest.len());
     call(
         f,
         a,
@@ -94,6 +97,7 @@ fn scan(
         &mut t[..ts],
         &mut d[..ds],
         &mut tv[..tvs],
+        &mut rest[..rests],
     )
 }
 
@@ -105,12 +109,19 @@ fn past_is_zero(
     t: &[u8; 33],
     d: &[i16; 8001],
     tv: &[i16; 257],
+    rest: &[u8; 3],
 ) -> bool {
-    (y[32] == 0) & (m[250] == 0) & (sm[32] == 0) & (t[32] == 0) & (d[8000] == 0) & (tv[256] == 0)
+    (y[32] == 0)
+        & (m[250] == 0)
+        & (sm[32] == 0)
+        & (t[32] == 0)
+        & (d[8000] == 0)
+        & (tv[256] == 0)
+        & (rest[2] == 0)
 }
 
 // A scan of the file over the memory `image`: the answer is `want`, and the memory after it is `after`.
-fn agrees(f: &[u8], a: Asked, image: &[u8; 16890], want: Answer, after: &[u8; 16890]) -> bool {
+fn agrees(f: &[u8], a: Asked, image: &[u8; 16892], want: Answer, after: &[u8; 16892]) -> bool {
     let mut x = tables::bits();
     let mut y = tables::bits();
     let mut m = tables::m_bits();
@@ -118,6 +129,7 @@ fn agrees(f: &[u8], a: Asked, image: &[u8; 16890], want: Answer, after: &[u8; 16
     let mut t = tables::bits();
     let mut d = tables::d_words();
     let mut tv = tables::t_values();
+    let mut rest = tables::rest();
     image::split(
         image,
         &mut x,
@@ -127,15 +139,29 @@ fn agrees(f: &[u8], a: Asked, image: &[u8; 16890], want: Answer, after: &[u8; 16
         &mut t,
         &mut d,
         &mut tv,
+        &mut rest,
     );
-    let s = scan(f, a, &x, &mut y, &mut m, &mut sm, &mut t, &mut d, &mut tv);
+    let s = scan(
+        f,
+        a,
+        &x,
+        &mut y,
+        &mut m,
+        &mut sm,
+        &mut t,
+        &mut d,
+        &mut tv,
+        &mut rest,
+    );
     let mut left = tables::image();
-    image::join(&x, &y, &m, &sm, &t, &d, &tv, &mut left);
-    judge::agrees(s, want) & check::same(&left, after) & past_is_zero(&y, &m, &sm, &t, &d, &tv)
+    image::join(&x, &y, &m, &sm, &t, &d, &tv, &rest, &mut left);
+    judge::agrees(s, want)
+        & check::same(&left, after)
+        & past_is_zero(&y, &m, &sm, &t, &d, &tv, &rest)
 }
 
 // The scan with its budget and, where the entry that takes none answers the same, that one too.
-fn both_agree(f: &[u8], a: Asked, image: &[u8; 16890], want: Answer, after: &[u8; 16890]) -> bool {
+fn both_agree(f: &[u8], a: Asked, image: &[u8; 16892], want: Answer, after: &[u8; 16892]) -> bool {
     let mut plain = a;
     plain.plain = true;
     if judge::is_plain(want, a.budget) {
@@ -150,9 +176,9 @@ fn part_agrees(
     file: &[u8],
     n: usize,
     a: Asked,
-    image: &[u8; 16890],
+    image: &[u8; 16892],
     want: Answer,
-    after: &[u8; 16890],
+    after: &[u8; 16892],
 ) -> bool {
     if n <= file.len() {
         return both_agree(&file[..n], a, image, want, after);
@@ -161,7 +187,7 @@ fn part_agrees(
 }
 
 // The rest of a case, whose file has n bytes. The image is the one before the case; then it is the one after it.
-pub fn next(fd: i32, file: &[u8; 65536], n: usize, image: &mut [u8; 16890]) -> Judged {
+pub fn next(fd: i32, file: &[u8; 65536], n: usize, image: &mut [u8; 16892]) -> Judged {
     let rule = reading::u8_from(fd);
     let table = reading::u8_from(fd);
     let way = reading::u8_from(fd);

@@ -4,7 +4,7 @@ ghost use mathlib.Core.Path.{_≡_};
 ghost use Rattle.vectors_scans.specs.Wants.{wrongSize, lentOf};
 use cases::octets::least;
 
-// What a case asks: the table that is lent in a wrong size (0: none) and in which way, elapsed units, the budget, and whether the entry that
+// What a case asks: the table that is lent in a wrong size (0: none) and in which way, elapsed milliseconds, the budget, and whether the entry that
 // takes no budget is called.
 pub struct Asked {
     pub table: u8,

@@ -15,7 +15,7 @@ fn section(
     fd: i32,
     n: usize,
     file: &mut [u8; 65536],
-    image: &mut [u8; 16890],
+    image: &mut [u8; 16892],
     met: &mut [usize; 18],
 ) {
     let mut i: usize = 0;

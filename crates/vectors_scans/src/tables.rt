@@ -5,10 +5,10 @@ ghost use lib.ListN.{length};
 ghost use mathlib.Core.Path.{_≡_};
 ghost use Rattle.cases.specs.Filled.{entries};
 
-pub fn image() -> [u8; 16890]
-    ensures { λ r. ⌜ (16890 ≡ length r) × (r ≡ entries 16890 0) ⌝ }
+pub fn image() -> [u8; 16892]
+    ensures { λ r. ⌜ (16892 ≡ length r) × (r ≡ entries 16892 0) ⌝ }
 {
-    [0; 16890]
+    [0; 16892]
 }
 
 // X, Y, SM and T contacts.
@@ -34,4 +34,11 @@ pub fn t_values() -> [i16; 257]
     ensures { λ r. ⌜ (257 ≡ length r) × (r ≡ entries 257 (pos 0)) ⌝ }
 {
     [0; 257]
+}
+
+// The leftovers.
+pub fn rest() -> [u8; 3]
+    ensures { λ r. ⌜ (3 ≡ length r) × (r ≡ entries 3 0) ⌝ }
+{
+    [0; 3]
 }

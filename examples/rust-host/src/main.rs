@@ -56,8 +56,9 @@ fn check(file: &[u8]) -> bool {
     true
 }
 
+/// 100 ms have gone by; the budget is 1000 steps.
 fn scan(file: &[u8], memory: &mut Memory) -> Told {
-    let told = ninhalto::scan(file, memory, 1, 1000);
+    let told = ninhalto::scan(file, memory, 100, 1000);
     let [number, at, kind, steps, stop, error, error_at] = told;
     println!("refusal {number} at {at}, kind {kind}, steps {steps}, stopped at {stop}, error {error} at {error_at}");
     told
@@ -150,6 +151,7 @@ fn main() -> Result<(), Refusal> {
         t: [0; 32],
         d: [0; 8000],
         tv: [0; 256],
+        rest: [0; 2],
     };
     before.d[BLOCK as usize] = 41;
     before.d[POOL as usize] = 77;

@@ -10,6 +10,8 @@ pub struct Memory {
     pub t: [u8; 32],
     pub d: [i16; 8000],
     pub tv: [i16; 256],
+    /// The leftovers: milliseconds of the 10 ms timers, 0 to 9, then of the 100 ms timers, 0 to 99.
+    pub rest: [u8; 2],
 }
 
 /// The number of a refusal and its record.
@@ -62,6 +64,8 @@ extern "C" {
         d_size: usize,
         tv: *mut i16,
         tv_size: usize,
+        rest: *mut u8,
+        rest_size: usize,
         elapsed: u32,
         budget: u32,
         told: &mut Told,
@@ -143,6 +147,7 @@ pub fn check(file: &[u8]) -> Result<(usize, usize), Refusal> {
     unless_refused(number, at, (records, steps))
 }
 
+/// Elapsed milliseconds, 0 to 10,000, and a budget of steps.
 pub fn scan(file: &[u8], c: &mut Memory, elapsed: u32, budget: u32) -> Told {
     let mut told = [0; 7];
     unsafe {
@@ -163,6 +168,8 @@ pub fn scan(file: &[u8], c: &mut Memory, elapsed: u32, budget: u32) -> Told {
             c.d.len(),
             c.tv.as_mut_ptr(),
             c.tv.len(),
+            c.rest.as_mut_ptr(),
+            c.rest.len(),
             elapsed,
             budget,
             &mut told,

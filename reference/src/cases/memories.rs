@@ -1,7 +1,7 @@
-//! Memories by rule: a case file tells a rule and a seed instead of 16,890 bytes.
+//! Memories by rule: a case file tells a rule and a seed instead of 16,892 bytes.
 
 use super::bytes::{Reader, Writer};
-use crate::memory::{Memory, BIT_BYTES, IMAGE};
+use crate::memory::{Memory, BIT_BYTES, IMAGE, REST};
 
 pub const ZERO: u32 = 0;
 pub const ONES: u32 = 1;
@@ -50,7 +50,7 @@ pub fn fill(rule: u32, seed: u32, bit_bytes: usize, words: usize) -> Vec<u8> {
 /// Which table is lent in a wrong size, and how. Table 0 is none of them.
 #[derive(Clone, Copy, PartialEq, Eq, Debug, Default)]
 pub struct Misfit {
-    /// 1 X, 2 Y, 3 M, 4 SM, 5 T contacts, 6 D, 7 T values.
+    /// 1 X, 2 Y, 3 M, 4 SM, 5 T contacts, 6 D, 7 T values, 8 leftovers.
     pub table: u32,
     /// 0 one entry short, 1 empty, 2 one entry more.
     pub way: u32,
@@ -74,11 +74,18 @@ fn resize<T: Clone + Default>(table: &mut Vec<T>, way: u32) {
 }
 
 impl MemorySpec {
+    /// The same with these leftovers: of the 10 ms timers, of the 100 ms timers.
+    pub fn with_leftovers(mut self, rest: [u8; 2]) -> MemorySpec {
+        self.patches.extend((REST as u16..).zip(rest));
+        self
+    }
+
     /// The image before the scan; `kept` is the one that the case before left.
     pub fn image(&self, kept: &[u8]) -> Vec<u8> {
         let mut image = match self.rule {
             KEPT => kept.to_vec(),
-            rule => fill(rule, self.seed, BIT_BYTES, 8000 + 256),
+            // The two leftovers are made as one word more.
+            rule => fill(rule, self.seed, BIT_BYTES, 8000 + 256 + 1),
         };
         for &(offset, value) in &self.patches {
             image[usize::from(offset)] = value;
@@ -98,6 +105,7 @@ impl MemorySpec {
             5 => resize(&mut memory.contacts, way),
             6 => resize(&mut memory.d, way),
             7 => resize(&mut memory.t, way),
+            8 => resize(&mut memory.rest, way),
             _ => {}
         }
         memory
@@ -132,4 +140,24 @@ impl MemorySpec {
 pub fn differences(before: &[u8], after: &[u8]) -> Vec<(usize, u8)> {
     let pairs = before.iter().zip(after).enumerate();
     pairs.filter(|(_, (old, new))| old != new).map(|(at, (_, new))| (at, *new)).collect()
+}
+
+#[cfg(test)]
+mod tests {
+    use super::*;
+
+    /// The leftovers are made as the last word, so the tables are what they are without them.
+    #[test]
+    fn leftovers_come_last() {
+        for rule in ZERO..=EDGES {
+            for seed in [0, 1, 77, u32::MAX] {
+                let spec = MemorySpec { rule, seed, ..MemorySpec::default() };
+                let image = spec.image(&[]);
+                assert_eq!(image.len(), IMAGE);
+                assert_eq!(image[..REST], fill(rule, seed, BIT_BYTES, 8000 + 256));
+                let patched = spec.with_leftovers([9, 99]).image(&[]);
+                assert_eq!((&patched[..REST], &patched[REST..]), (&image[..REST], &[9, 99][..]));
+            }
+        }
+    }
 }

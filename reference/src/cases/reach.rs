@@ -15,7 +15,10 @@ use super::scans::{ScanCase, ENDED, WATCHDOG};
 use super::texts::TextCase;
 use super::unitlists::UnitListCase;
 use crate::check::check;
-use crate::memory::IMAGE;
+use crate::clock::{self, LONGEST_ELAPSED};
+use crate::file::Record;
+use crate::instruction::Instruction;
+use crate::memory::{IMAGE, REST};
 use crate::scan::scan_watched;
 use crate::units::{Clash, MOST, ROOM};
 
@@ -33,6 +36,18 @@ pub struct ListReach {
     pub shared_words: u64,
 }
 
+/// What the scans meet of time.
+#[derive(Clone, Copy, Default)]
+pub struct TimeReach {
+    /// TON executed with flow: on a timer of 100 ms, of 10 ms, of 1 ms.
+    pub bases: [u64; 3],
+    /// Scans that find leftovers other than 0 and 0, and scans that leave others than they found.
+    pub found: u64,
+    pub moved: u64,
+    /// What is wrong where 9 is told: a size, a leftover, the time.
+    pub nines: [u64; 3],
+}
+
 #[derive(Clone)]
 pub struct Reach {
     pub cases: u64,
@@ -47,6 +62,7 @@ pub struct Reach {
     pub errors: [u64; 3],
     pub ended: u64,
     pub watchdog: u64,
+    pub time: TimeReach,
     pub groups: u64,
     pub silent: u64,
     /// Replies to requests: by exception code, and those without one by function.
@@ -71,6 +87,7 @@ impl Default for Reach {
             errors: [0; 3],
             ended: 0,
             watchdog: 0,
+            time: TimeReach::default(),
             groups: 0,
             silent: 0,
             exceptions: [0; 256],
@@ -78,6 +95,35 @@ impl Default for Reach {
             lists: ListReach::default(),
             texts: [0; 3],
             lines: 0,
+        }
+    }
+}
+
+impl TimeReach {
+    fn count_ton(&mut self, record: &Record) {
+        let place = match clock::base(record.operands[0].value) {
+            100 => 0,
+            10 => 1,
+            _ => 2,
+        };
+        self.bases[place] += 1;
+    }
+
+    fn add(&mut self, case: &ScanCase, before: &[u8], after: &[u8]) {
+        let (old, new) = (&before[REST..], &after[REST..]);
+        let lent = case.memory.lend(before);
+        match case.refusal {
+            0 => {
+                self.found += u64::from(old != [0, 0]);
+                self.moved += u64::from(old != new);
+            }
+            9 => {
+                let sized = lent.sizes_right();
+                self.nines[0] += u64::from(!sized);
+                self.nines[1] += u64::from(sized && !clock::sound(&lent.rest));
+                self.nines[2] += u64::from(case.elapsed > LONGEST_ELAPSED);
+            }
+            _ => {}
         }
     }
 }
@@ -128,10 +174,15 @@ impl Reach {
         };
         let mut memory = case.memory.lend(before);
         let (executed, with_flow) = (&mut self.executed, &mut self.with_flow);
+        let time = &mut self.time;
         let mut watch = |at: usize, on: bool| {
-            let number = usize::from(program.records[at].number);
+            let record = &program.records[at];
+            let number = usize::from(record.number);
             executed[number] += 1;
             with_flow[number] += u64::from(on);
+            if on && record.number == Instruction::Ton.number() {
+                time.count_ton(record);
+            }
         };
         // A refusal was counted already.
         let _ = scan_watched(&case.file, &mut memory, case.elapsed, case.budget, &mut watch);
@@ -174,6 +225,7 @@ impl Reach {
             self.count(case.refusal, again == case);
             self.list(&case.file);
             self.watch(&case, &before);
+            self.time.add(&case, &before, &kept);
             self.ended += u64::from(case.kind == ENDED);
             self.watchdog += u64::from(case.kind == WATCHDOG);
             self.errors[(case.answer.error as usize).min(2)] += 1;

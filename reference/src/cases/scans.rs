@@ -39,7 +39,8 @@ impl ScanCase {
         let before = memory.image(kept);
         let mut lent = memory.lend(&before);
         let result = scan(&file, &mut lent, elapsed, budget);
-        *kept = if result.is_ok() { lent.image() } else { before.clone() };
+        // Tables of wrong sizes have no image.
+        *kept = if lent.sizes_right() { lent.image() } else { before.clone() };
         let (refusal, record, kind, answer) = match result {
             Ok(answer) => (0, 0, if answer.ended { ENDED } else { WATCHDOG }, answer),
             Err(refusal) => (refusal.number, refusal.record, REFUSED, NO_ANSWER),

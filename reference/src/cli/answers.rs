@@ -112,3 +112,20 @@ pub fn answer(path: &str, station: u32, request: &str) -> Said {
         Err(refusal) => said(refusal.to_string()),
     }
 }
+
+#[cfg(test)]
+mod tests {
+    use super::memory_of;
+    use crate::clock;
+    use crate::memory::IMAGE;
+
+    #[test]
+    fn memory_files() {
+        // A leftover out of its range is the scan's to refuse; a size is everyone's.
+        let memory = memory_of(&[0xFF; IMAGE]);
+        assert!(memory.sizes_right() && !clock::sound(&memory.rest));
+        for size in [0, 16890, 16891, 16893] {
+            assert!(!memory_of(&vec![0; size]).sizes_right());
+        }
+    }
+}

@@ -28,6 +28,15 @@ fn instructions(reach: &Reach) -> String {
     text
 }
 
+fn time(reach: &Reach) -> String {
+    let t = &reach.time;
+    let [hundred, ten, one] = t.bases;
+    let tons = format!("TON with flow 100 ms {hundred} 10 ms {ten} 1 ms {one}");
+    let [size, leftover, elapsed] = t.nines;
+    let nines = format!("nines by size {size} by leftover {leftover} by time {elapsed}");
+    format!("{tons}\nleftovers found {} moved {}\n{nines}\n", t.found, t.moved)
+}
+
 fn requests(reach: &Reach) -> String {
     let [one, two, three] = [1, 2, 3].map(|code| reach.exceptions[code]);
     let exceptions = format!("exceptions 01 {one} 02 {two} 03 {three}");
@@ -57,6 +66,7 @@ pub fn coverage(paths: &[&str]) -> Said {
     }
     let mut text = refusals(&reach) + &instructions(&reach);
     text += &format!("scans ended {} watchdog {}\n", reach.ended, reach.watchdog);
+    text += &time(&reach);
     text += &format!("error 1 {} error 2 {}\n", reach.errors[1], reach.errors[2]);
     text += &format!("groups and bits {}\n", reach.groups);
     text += &requests(&reach);

@@ -9,7 +9,8 @@ fn describe(t: &Tally) -> String {
     let moves = format!("moves {} accepted {} twin scans {}", t.moves, t.moved, t.twin_scans);
     let requests = format!("requests {} replies {}", t.requests, t.replies);
     let units = format!("lists {} clashes {} lines {}", t.lists, t.clashes, t.lines);
-    format!("{files}, {scans}, {moves}, {requests}, {units}\nall held\n")
+    let times = format!("times {} in scans {}", t.times, t.parts);
+    format!("{files}, {scans}, {moves}, {requests}, {units}, {times}\nall held\n")
 }
 
 pub fn storm(seed: u32, count: u32) -> Said {

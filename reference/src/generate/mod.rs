@@ -20,6 +20,7 @@ mod rungs;
 pub mod specials;
 pub mod spellings;
 pub mod structure_faults;
+pub mod timers;
 
 #[cfg(test)]
 mod tests {

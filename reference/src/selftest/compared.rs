@@ -49,7 +49,7 @@ fn into_gap(length: u32) -> String {
 fn budget_0() -> String {
     let bytes = file(&with_flow(Instruction::Inc, &[d(0)]));
     let mut memory = Memory::zero();
-    let answer = scan(&bytes, &mut memory, 5, 0);
+    let answer = scan(&bytes, &mut memory, 500, 0);
     let mut only_sm0 = Memory::zero();
     put_bit(&mut only_sm0.sm, 0, true);
     match answer {

@@ -1,7 +1,8 @@
-//! The cases that document 01 itself decides, each with the answer that it names.
+//! The cases that the documents themselves decide, each with the answer that they name.
 
 mod compared;
 mod marked;
+mod timed;
 mod traps;
 
 use crate::instruction::Instruction;
@@ -26,6 +27,7 @@ pub fn lines() -> Vec<Line> {
     let mut lines = marked::lines();
     lines.extend(compared::lines());
     lines.extend(traps::lines());
+    lines.extend(timed::lines());
     lines
 }
 

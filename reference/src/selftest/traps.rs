@@ -73,10 +73,9 @@ pub fn lines() -> Vec<Line> {
         line("SQT of -1", "2 record 1 77 111", in_error(Sqt, &[k(-1), d(0)])),
         line("NEG of -32768", "2 record 1 77 111", in_error(Neg, &[k(-32768), d(0)])),
         line("VABS of -32768", "2 record 1 77 111", in_error(Vabs, &[k(-32768), d(0)])),
-        line("TON 10 at 4 after 5", "9 false", timer(4, 5)),
-        line("TON 10 at -4 after 10", "10 true", timer(-4, 10)),
-        line("TON 10 at 32767 after 32767", "10 true", timer(32767, 32767)),
-        line("elapsed 32768", "refused 9 record 0", timer(0, 32768)),
+        line("TON 10 at 4 after 500 ms", "9 false", timer(4, 500)),
+        line("TON 10 at -4 after 1,000 ms", "10 true", timer(-4, 1_000)),
+        line("TON 10 at 32767 after 10,000 ms", "10 true", timer(32767, 10_000)),
         line("FOR 0 passes its body by", "true 2 4 0", for_0()),
     ]
 }

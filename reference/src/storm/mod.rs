@@ -5,6 +5,7 @@ mod moves;
 mod refused;
 mod requests;
 mod scans;
+mod times;
 mod units;
 
 use crate::cases::memories::MemorySpec;
@@ -34,6 +35,9 @@ pub struct Tally {
     pub clashes: u64,
     /// First lines that one of two texts handed back.
     pub lines: u64,
+    /// Times that were split, and the scans that they were given to.
+    pub times: u64,
+    pub parts: u64,
 }
 
 /// What did not hold, in words.
@@ -75,6 +79,7 @@ fn accepted_program(rng: &mut Rng, turn: usize) -> crate::generate::program::Mad
 
 fn round(rng: &mut Rng, turn: usize, tally: &mut Tally) -> Held {
     units::round(rng, tally)?;
+    times::round(rng, tally)?;
     for _ in 0..4 {
         let memory = random_memory(rng, &[]);
         requests::round(rng, &memory, tally)?;
@@ -107,5 +112,6 @@ mod tests {
         assert!(tally.moved > 100 && tally.watchdogs > 50 && tally.refused > 400);
         assert!(tally.requests == 6000 && tally.replies > 2000);
         assert!(tally.lists == 1500 && tally.clashes > 10_000 && tally.lines > 800);
+        assert!(tally.times == 1500 && tally.parts > 10_000);
     }
 }

@@ -38,9 +38,9 @@ fn twins(rng: &mut Rng, made: &Made, moved: &[u8], block: Block, place: u32) -> 
     let mut new = old.clone();
     exchange(&mut new.d, block, place).map_err(|refusal| refusal.to_string())?;
     for _ in 0..4 {
-        let (units, budget) = (elapsed(rng), rng.pick(&[3, 40, 30_000, 30_000]));
-        let one = scan(&file, &mut old, units, budget);
-        let other = scan(moved, &mut new, units, budget);
+        let (time, budget) = (elapsed(rng), rng.pick(&[3, 40, 30_000, 30_000]));
+        let one = scan(&file, &mut old, time, budget);
+        let other = scan(moved, &mut new, time, budget);
         hold(one == other, "both programs answer alike")?;
         let mut back = new.clone();
         exchange(&mut back.d, block, place).map_err(|refusal| refusal.to_string())?;

@@ -29,6 +29,13 @@ fn unchanged(file: &[u8], before: &Memory, after: &Memory) -> Held {
     hold(bit(&after.sm, 0), "SM0 on")
 }
 
+/// The leftovers advance with any program and budget.
+fn leftovers_hold(before: &Memory, after: &Memory, elapsed: u32) -> Held {
+    let left = |old: u8, base: u32| ((u32::from(old) + elapsed) % base) as u8;
+    let wanted = [left(before.rest[0], 10), left(before.rest[1], 100)];
+    hold(after.rest == wanted, "leftovers after a scan")
+}
+
 fn steps_hold(answer: &Answer, most: u32, budget: u32, last: usize) -> Held {
     hold(answer.steps <= most, "steps within W")?;
     hold(answer.steps <= budget, "steps within the budget")?;
@@ -41,10 +48,10 @@ fn steps_hold(answer: &Answer, most: u32, budget: u32, last: usize) -> Held {
 
 /// A scan with W steps always ends; one with one step less than it took does not, and
 /// leaves the same memory, since END changes nothing.
-fn budgets(file: &[u8], before: &Memory, units: u32, most: u32) -> Held {
+fn budgets(file: &[u8], before: &Memory, elapsed: u32, most: u32) -> Held {
     let run = |budget: u32| {
         let mut memory = before.clone();
-        scan(file, &mut memory, units, budget).map(|answer| (answer, memory))
+        scan(file, &mut memory, elapsed, budget).map(|answer| (answer, memory))
     };
     let (whole, memory) = run(most).map_err(|refusal| refusal.to_string())?;
     hold(whole.ended, "W steps are enough")?;
@@ -57,9 +64,9 @@ pub fn round(rng: &mut Rng, records: &[Record], tally: &mut Tally) -> Held {
     let file = compose::file(records);
     let program = check(&file).map_err(|refusal| format!("a good program is {refusal}"))?;
     let before = random_memory(rng, records);
-    let (units, budget) = (elapsed(rng), rng.pick(&[0, 1, 5, 30, 200, 30_000]));
+    let (time, budget) = (elapsed(rng), rng.pick(&[0, 1, 5, 30, 200, 30_000]));
     let mut memory = before.clone();
-    let answer = scan(&file, &mut memory, units, budget).map_err(|r| r.to_string())?;
+    let answer = scan(&file, &mut memory, time, budget).map_err(|r| r.to_string())?;
     tally.files += 1;
     tally.scans += 1;
     tally.watchdogs += u64::from(!answer.ended);
@@ -69,5 +76,6 @@ pub fn round(rng: &mut Rng, records: &[Record], tally: &mut Tally) -> Held {
         hold(answer.steps == program.steps, "without jumps a scan takes W steps")?;
     }
     unchanged(&file, &before, &memory)?;
-    budgets(&file, &before, units, program.steps)
+    leftovers_hold(&before, &memory, time)?;
+    budgets(&file, &before, time, program.steps)
 }

@@ -1,4 +1,4 @@
--- The bits, then the words. Assumes nothing.
+-- The bits, then the words, then the leftovers. Assumes nothing.
 use native.Mathlib.Omega.{arith}
 use borrow.Author.Needs.{needs}
 use borrow.Author.Tests.{lt-ltb, le-ltb}
@@ -8,15 +8,19 @@ use Rattle.image.proofs.image_byte.Tie as tie
 
 returns : tie.Need-returns
 unfolding imageByte
-returns c = let a = c .before .before .before .before .before .before .before .args in (rw (lt-ltb (a .i) 378 (omega arith)) (c .bit-byte .ensures), record { in-d = λ h k. absurd (omega arith); in-tv = λ h. absurd (omega arith) })
+returns c = let a = c .before .before .before .before .before .before .before .before .args in (rw (lt-ltb (a .i) 378 (omega arith)) (c .bit-byte .ensures), record { in-d = λ h k. absurd (omega arith); in-tv = λ h k. absurd (omega arith) })
 
 returns-2 : tie.Need-returns-2
 unfolding imageByte
-returns-2 c = let a = c .before .before .before .before .before .before .before .before .args in (rw (le-ltb (a .i) 378 (omega arith), lt-ltb (a .i) 16378 (omega arith)) (c .byte-of .ensures .0), record { in-d = λ h k. c .byte-of .ensures .1; in-tv = λ h. absurd (omega arith) })
+returns-2 c = let a = c .before .before .before .before .before .before .before .before .before .args in (rw (le-ltb (a .i) 378 (omega arith), lt-ltb (a .i) 16378 (omega arith)) (c .byte-of .ensures .0), record { in-d = λ h k. c .byte-of .ensures .1; in-tv = λ h k. absurd (omega arith) })
 
 returns-3 : tie.Need-returns-3
 unfolding imageByte
-returns-3 c = let a = c .before .before .before .before .before .before .before .before .args in (rw (le-ltb (a .i) 378 (omega arith), le-ltb (a .i) 16378 (omega arith)) (c .byte-of2 .ensures .0), record { in-d = λ h k. absurd (omega arith); in-tv = λ h. c .byte-of2 .ensures .1 })
+returns-3 c = let a = c .before .before .before .before .before .before .before .before .before .before .args in (rw (le-ltb (a .i) 378 (omega arith), le-ltb (a .i) 16378 (omega arith), lt-ltb (a .i) 16890 (omega arith)) (c .byte-of2 .ensures .0), record { in-d = λ h k. absurd (omega arith); in-tv = λ h k. c .byte-of2 .ensures .1 })
+
+returns-4 : tie.Need-returns-4
+unfolding imageByte
+returns-4 c = let a = c .before .before .before .before .before .before .before .before .before .before .args in (rw (le-ltb (a .i) 378 (omega arith), le-ltb (a .i) 16378 (omega arith), le-ltb (a .i) 16890 (omega arith)) (c .byte-at .ensures), record { in-d = λ h k. absurd (omega arith); in-tv = λ h k. absurd (omega arith) })
 
 pub image-byte-spec : {M : Type 1} → statement M
 image-byte-spec =
@@ -27,4 +31,6 @@ image-byte-spec =
     (λ c κs. search needs)
     returns-2
     (λ c κs. search needs)
-    returns-3)
+    returns-3
+    (λ c κs. search needs)
+    returns-4)

@@ -25,7 +25,7 @@ returns c =
     let at-units = at-word-at .before .before in
     let start = at-units .before .before in
     let a = start .args in
-    timed (a .elapsed) (a .i) (a .constant) (a .on) (a .t .now) (a .tv .now) (at-counted .counted .result)
+    timed (a .u) (a .i) (a .constant) (a .on) (a .t .now) (a .tv .now) (at-counted .counted .result)
     (at-counted .counted .ensures .0 ∙ ap₂ (countedOf (a .on) (limitAt (a .constant))) (at-units .units .ensures .0) (said w64 (at-word-at .word-at .ok) (at-word-at .word-at .ensures .0)))
     (at-put-bit .put-bit .ensures ∙ ap (withBit (a .t .now) (a .i)) (at-contact .contact .ensures .0))
     (at-put-word .put-word .ensures ∙ ap (set (a .tv .now) (a .i)) (said w64 (at-whole .whole .ok) (at-whole .whole .ensures)))

@@ -8,6 +8,7 @@ mod moves;
 mod requests;
 mod scans;
 mod texts;
+mod timers;
 mod unitlists;
 
 pub use checks::check_cases;

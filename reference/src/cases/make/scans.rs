@@ -1,4 +1,5 @@
-//! Scans: accepted programs over several memories and budgets, and refused calls.
+//! Scans: accepted programs over several memories and budgets, and refused calls. Those of timers
+//! are in `timers`.
 
 use crate::cases::memories::{MemorySpec, Misfit, KEPT, ONES, ZERO};
 use crate::cases::scans::ScanCase;
@@ -7,7 +8,7 @@ use crate::file::Record;
 use crate::generate::edge_programs;
 use crate::generate::faults::aimed;
 use crate::generate::files::{broken_frame, comment};
-use crate::generate::memories::{elapsed, memory};
+use crate::generate::memories::{bad_leftovers, elapsed, leftovers, memory, too_long};
 use crate::generate::program::{medium, program, small, Plan};
 use crate::generate::rng::Rng;
 use crate::generate::specials;
@@ -15,19 +16,22 @@ use crate::memory::IMAGE;
 use crate::scan::DEFAULT_BUDGET;
 
 /// The budget of the cases that try no other. It was that of the entry that takes none.
-const NAMED: u32 = 1_000_000;
+pub(super) const NAMED: u32 = 1_000_000;
 
-/// How many cases are of the budget of the entry that takes none. They stand last: those ahead of them are as they
-/// were when that was another.
+/// How many cases are of the budget of the entry that takes none. They stand last.
 const DEFAULTS: usize = 100;
 
-struct Batch {
+pub(super) struct Batch {
     cases: Vec<ScanCase>,
     kept: Vec<u8>,
 }
 
+fn ruled(rule: u32, rest: [u8; 2]) -> MemorySpec {
+    MemorySpec { rule, ..MemorySpec::default() }.with_leftovers(rest)
+}
+
 impl Batch {
-    fn add(&mut self, file: &[u8], memory: MemorySpec, elapsed: u32, budget: u32) {
+    pub(super) fn add(&mut self, file: &[u8], memory: MemorySpec, elapsed: u32, budget: u32) {
         let case = ScanCase::solve(file.to_vec(), memory, elapsed, budget, &mut self.kept);
         self.cases.push(case);
     }
@@ -42,7 +46,7 @@ impl Batch {
         let zero = MemorySpec { rule: ZERO, ..MemorySpec::default() };
         let passes = compose::file(&specials::three_passes());
         for budget in [0, 1, 4, 10, 11, 12, u32::MAX] {
-            self.add(&passes, zero.clone(), 5, budget);
+            self.add(&passes, zero.clone(), 500, budget);
         }
         for steps in [u64::from(NAMED), u64::from(NAMED) + 1] {
             let file = specials::of_steps(rng, steps);
@@ -64,14 +68,14 @@ impl Batch {
         }
         let file = compose::file(&specials::long_way_round());
         for rule in [ZERO, ONES] {
-            self.add(&file, MemorySpec { rule, ..zero.clone() }, 0, DEFAULT_BUDGET);
+            self.add(&file, ruled(rule, [9, 99]), 0, DEFAULT_BUDGET);
         }
         while self.cases.len() < count {
             let records = specials::over_steps(rng, DEFAULT_BUDGET);
             let file = crate::file::encode(&comment(rng), &records);
-            let (spec, units) = (memory(rng, &records), elapsed(rng));
-            self.add(&file, spec.clone(), units, DEFAULT_BUDGET);
-            self.add(&file, spec, units, NAMED);
+            let (spec, time) = (memory(rng, &records), elapsed(rng));
+            self.add(&file, spec.clone(), time, DEFAULT_BUDGET);
+            self.add(&file, spec, time, NAMED);
         }
     }
 
@@ -79,7 +83,7 @@ impl Batch {
     fn edges(&mut self, rng: &mut Rng) {
         for file in edge_programs::files(rng) {
             let rule = rng.pick(&[ZERO, ONES]);
-            self.add(&file, MemorySpec { rule, ..MemorySpec::default() }, 0, NAMED);
+            self.add(&file, ruled(rule, leftovers(rng)), 0, NAMED);
         }
     }
 
@@ -92,22 +96,23 @@ impl Batch {
         self.add(&file, memory(rng, records), elapsed(rng), NAMED);
         let steps = self.steps();
         let again = self.cases.last().map(|case| (case.memory.clone(), case.elapsed));
-        if let Some((same, units)) = again {
+        if let Some((same, time)) = again {
             let within = rng.below(steps);
             let budget = rng.pick(&[0, 1, steps, steps - 1, within, within]);
-            self.add(&file, same, units, budget);
+            self.add(&file, same, time, budget);
         }
     }
 
-    /// Refusal 9: each table in each wrong size, and elapsed units out of range.
-    fn wrong_sizes(&mut self, rng: &mut Rng, turn: usize) {
+    /// Refusal 9: each table in each wrong size, a leftover and the time out of range.
+    fn wrongly_lent(&mut self, rng: &mut Rng, turn: usize) {
         let records = small(rng).records;
         let file = compose::file(&records);
-        let misfit = Misfit { table: turn as u32 % 7 + 1, way: turn as u32 / 7 % 3 };
+        let misfit = Misfit { table: turn as u32 % 8 + 1, way: turn as u32 / 8 % 3 };
         let spec = memory(rng, &records);
         self.add(&file, MemorySpec { misfit, ..spec.clone() }, elapsed(rng), NAMED);
-        let too_long = rng.pick(&[32768, 32769, 65535, 65536, u32::MAX]);
-        self.add(&file, spec, too_long, rng.pick(&[0, NAMED]));
+        self.add(&file, spec.clone(), too_long(rng), rng.pick(&[0, NAMED]));
+        let wrong = spec.with_leftovers(bad_leftovers(rng));
+        self.add(&file, wrong, elapsed(rng), rng.pick(&[0, NAMED]));
     }
 
     /// Refusals 1 to 8, also where 9 holds as well.
@@ -119,8 +124,9 @@ impl Batch {
         } else {
             compose::file(&aimed(rng, number, turn / 8).records)
         };
-        let units = if rng.once_in(3) { 40_000 } else { elapsed(rng) };
-        self.add(&file, memory(rng, &[]), units, NAMED);
+        let time = if rng.once_in(3) { too_long(rng) } else { elapsed(rng) };
+        let rest = if rng.once_in(3) { bad_leftovers(rng) } else { leftovers(rng) };
+        self.add(&file, memory(rng, &[]).with_leftovers(rest), time, NAMED);
     }
 }
 
@@ -128,11 +134,12 @@ pub fn scan_cases(rng: &mut Rng, count: usize) -> Vec<ScanCase> {
     let mut batch = Batch { cases: Vec::new(), kept: vec![0; IMAGE] };
     batch.specials(rng);
     batch.edges(rng);
+    batch.timers(rng);
     let mut turn = 0;
     let first = count.saturating_sub(DEFAULTS);
     while batch.cases.len() < first {
         match turn % 20 {
-            7 => batch.wrong_sizes(rng, turn / 20),
+            7 | 16 => batch.wrongly_lent(rng, turn / 10),
             13 | 14 => batch.refused(rng, turn / 20 * 2 + turn % 2),
             17 => {
                 let plan = Plan { records: 30, steps: 20_000, loops: 3 };

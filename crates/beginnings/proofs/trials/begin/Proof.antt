@@ -19,4 +19,5 @@ begin-spec =
     (λ c κs. search needs)
     returns-2
     (λ c κs. search needs)
+    (λ c κs. search needs)
     (λ c. search needs))

@@ -8,7 +8,7 @@ returns : tie.Need-returns
 returns c = not-zero (c .stopped .ensures) (c .before .refused .ensures .0)
 
 returns-2 : tie.Need-returns-2
-returns-2 c = not-zero (c .stopped2 .ensures) (c .before .refused2 .ensures .0)
+returns-2 c = not-zero (c .stopped2 .ensures) (c .before .before .refused2 .ensures .0)
 
 pub refuse-spec : {M : Type 1} → statement M
 refuse-spec = tie.close (tie.spec
@@ -16,6 +16,7 @@ refuse-spec = tie.close (tie.spec
     (λ c κs. search needs)
     (λ c κs. search needs)
     returns
+    (λ c κs. search needs)
     (λ c κs. search needs)
     (λ c κs. search needs)
     (λ c κs. search needs)

@@ -5,7 +5,7 @@ use Rattle.host.proofs.scan.ninhalto_scan.Statement.{statement}
 use Rattle.host.proofs.scan.ninhalto_scan.Tie as tie
 
 returns : tie.Need-returns
-returns c = told-of (c .before .before .before .before .before .before .before .before .before .before .before .scan-file .ensures) (c .seven .ensures)
+returns c = told-of (c .before .before .before .before .before .before .before .before .before .before .before .before .before .scan-file .ensures) (c .seven .ensures)
 
 pub ninhalto-scan-spec : {M : Type 1} → statement M
 ninhalto-scan-spec =
@@ -13,6 +13,7 @@ ninhalto-scan-spec =
     (tie.spec
     (λ c κs. search needs)
     (λ c κs. search needs)
+    (λ c. search needs)
     (λ c. search needs)
     (λ c. search needs)
     (λ c. search needs)

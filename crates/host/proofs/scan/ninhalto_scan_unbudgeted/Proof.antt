@@ -5,7 +5,7 @@ use Rattle.host.proofs.scan.ninhalto_scan_unbudgeted.Statement.{stateme
 use Rattle.host.proofs.scan.ninhalto_scan_unbudgeted.Tie as tie
 
 returns : tie.Need-returns
-returns c = told-of (c .before .before .before .before .before .before .before .before .before .before .before .scan-unbudgeted .ensures) (c .seven .ensures)
+returns c = told-of (c .before .before .before .before .before .before .before .before .before .before .before .before .before .scan-unbudgeted .ensures) (c .seven .ensures)
 
 pub ninhalto-scan-unbudgeted-spec : {M : Type 1} → statement M
 ninhalto-scan-unbudgeted-spec =
@@ -13,6 +13,7 @@ ninhalto-scan-unbudgeted-spec =
     (tie.spec
     (λ c κs. search needs)
     (λ c κs. search needs)
+    (λ c. search needs)
     (λ c. search needs)
     (λ c. search needs)
     (λ c. search needs)

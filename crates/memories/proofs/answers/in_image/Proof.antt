@@ -1,4 +1,4 @@
--- The tables split, the request over M and D, and the tables joined. Assumes nothing.
+-- Tables and leftovers split, the request over M and D, and all joined. Assumes nothing.
 use borrow.Author.Needs.{needs}
 use Rattle.memories.proofs.After.{new-sizes}
 use Rattle.memories.proofs.Answering.{request-after}
@@ -7,12 +7,12 @@ use Rattle.memories.proofs.answers.in_image.Tie as tie
 
 returns : tie.Need-returns
 returns c =
-    let w = c .before .before .before .before .before .before .before .before .before .before .before .before .before in
-    let s = w .before .before .before .before .before .before .before .before .before .before .before in
-    let n = s .before .before .before .before .before .before .before .before .before .before in
-    let new = new-sizes (n .before .before .before .before .before .before .bits .ensures) (n .before .before .before .before .before .bits2 .ensures) (n .before .before .before .before .m-bits .ensures) (n .before .before .before .bits3 .ensures) (n .before .before .bits4 .ensures) (n .before .d-words .ensures) (n .t-values .ensures) in
-    let e = s .split .ensures .1 .1 .1 .1 .1 .1 .1 in
-    request-after _ _ _ _ (s .before .before .before .before .before .before .before .before .split-arg2 .given .0) (e .0 new) (e .1) (w .in-tables .ensures) (w .in-tables .kept .0) (w .in-tables .kept .1 .0) (c .join .ensures .1 .0) (c .join .ensures .1 .1)
+    let w = c .before .before .before .before .before .before .before .before .before .before .before .before .before .before in
+    let s = w .before .before .before .before .before .before .before .before .before .before .before .before in
+    let n = s .before .before .before .before .before .before .before .before .before .before .before in
+    let new = new-sizes (n .before .before .before .before .before .before .before .bits .ensures) (n .before .before .before .before .before .before .bits2 .ensures) (n .before .before .before .before .before .m-bits .ensures) (n .before .before .before .before .bits3 .ensures) (n .before .before .before .bits4 .ensures) (n .before .before .d-words .ensures) (n .before .t-values .ensures) (n .rest .ensures) in
+    let e = s .split .ensures .1 .1 .1 .1 .1 .1 .1 .1 in
+    request-after _ _ _ _ (s .before .before .before .before .before .before .before .before .before .split-arg2 .given .0) (e .0 new) (e .1) (w .in-tables .ensures) (w .in-tables .kept .0) (w .in-tables .kept .1 .0) (c .join .ensures .1 .0) (c .join .ensures .1 .1)
 
 pub in-image-spec : {M : Type 1} → statement M
 in-image-spec =
@@ -25,6 +25,8 @@ in-image-spec =
     (λ c κs. search needs)
     (λ c κs. search needs)
     (λ c κs. search needs)
+    (λ c κs. search needs)
+    (λ c. search needs)
     (λ c. search needs)
     (λ c. search needs)
     (λ c. search needs)
@@ -36,6 +38,7 @@ in-image-spec =
     (λ c. search needs)
     (λ c. search needs)
     (λ c κs. search needs)
+    (λ c. search needs)
     (λ c. search needs)
     (λ c. search needs)
     (λ c. search needs)

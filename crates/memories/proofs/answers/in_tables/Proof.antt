@@ -6,10 +6,10 @@ use Rattle.memories.proofs.answers.in_tables.Statement.{statement}
 use Rattle.memories.proofs.answers.in_tables.Tie as tie
 
 returns : tie.Need-returns
-returns c = rw (eq-eqb (c .before .before .before .before .before .before .before .before .before .before .before .before .before .args .size) 16890 (c .before .before .before .before .before .before .before .before .before .if1 .taken)) (c .before .before .before .before .before .answer .ensures)
+returns c = rw (eq-eqb (c .before .before .before .before .before .before .before .before .before .before .before .before .before .args .size) 16892 (c .before .before .before .before .before .before .before .before .before .if1 .taken)) (c .before .before .before .before .before .answer .ensures)
 
 returns-2 : tie.Need-returns-2
-returns-2 c = rw (ne-eqb (c .before .before .before .before .args .size) 16890 (c .if1 .left)) refl
+returns-2 c = rw (ne-eqb (c .before .before .before .before .args .size) 16892 (c .if1 .left)) refl
 
 pub in-tables-spec : {M : Type 1} → statement M
 in-tables-spec =

@@ -9,10 +9,10 @@ use Rattle.turns.proofs.images.first_apart.Statement.{statement}
 use Rattle.turns.proofs.images.first_apart.Tie as tie
 
 abbrev Inv-loop : tie.InvT-loop
-Inv-loop a b i₀ i = (i ≤ 16890) × ((j : ℕ) → j < i → getD a j 0 ≡ getD b j 0)
+Inv-loop a b i₀ i = (i ≤ 16892) × ((j : ℕ) → j < i → getD a j 0 ≡ getD b j 0)
 
 abbrev μ-loop : tie.MeasureT-loop
-μ-loop a b i₀ i = 16890 - i
+μ-loop a b i₀ i = 16892 - i
 
 loop-holds : tie.Need-loop-holds Inv-loop μ-loop
 loop-holds c = (omega arith, λ j h. absurd (omega arith))

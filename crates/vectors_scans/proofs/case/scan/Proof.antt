@@ -26,10 +26,14 @@ slice-aggregate-call-6 c = simp length-take (omega arith)
 slice-aggregate-call-7 : tie.Need-slice-aggregate-call-7
 slice-aggregate-call-7 c = simp length-take (omega arith)
 
+slice-aggregate-call-8 : tie.Need-slice-aggregate-call-8
+slice-aggregate-call-8 c = simp length-take (omega arith)
+
 pub scan-spec : {M : Type 1} → statement M
 scan-spec =
     tie.close
     (tie.spec
+    (λ c κs. search needs)
     (λ c κs. search needs)
     (λ c κs. search needs)
     (λ c κs. search needs)
@@ -50,7 +54,10 @@ scan-spec =
     slice-aggregate-call-6
     (λ c. search needs)
     slice-aggregate-call-7
+    (λ c. search needs)
+    slice-aggregate-call-8
     (λ c κs. search needs)
+    (λ c. search needs)
     (λ c. search needs)
     (λ c. search needs)
     (λ c. search needs)
