@@ -14,8 +14,8 @@
    - It writes what is named as written, and nothing else. It does not allocate, keeps nothing between calls, has no global state, calls memcpy
      and memset and nothing else, and always ends. It may be called from any thread, over different lent parts at the same time.
    - Stack of the x86-64 code, measured (robustness/stack.c), in bytes: the check 12,320, a scan 62,128, the map 17,152, the move 14,128, the
-     exchange 56, the answer 296, the clashes 1,176, the longer of two texts 264. It is not proved. Only the check's walk over loops calls itself, for each
-     loop in a loop, at most 8 deep; a file of the deepest such calls was measured.
+     exchange 56, the answer 296, the clashes 1,176, the longer of two texts 264. It is not proved. Only the check's walk over loops calls itself,
+     for each loop in a loop, at most 8 deep; a file of the deepest such calls was measured.
 
    number: 0, or the number of a refusal. at: the record told, counted from 0; 0 where there is none.
 
