@@ -1,20 +1,20 @@
-/* Ninhalto for C: check, scan, use map, move and exchange of programs of the EC20 series, answers to Modbus requests, and the clashes of declared
-   blocks.
+/* Ninhalto for C: check, scan, use map, move, exchange and jobs of programs of the EC20 series, answers to Modbus requests, and the clashes of
+   declared blocks.
 
    The library is target/staticlib/libhost.a, which `rt staticlib host` proves and writes, for x86-64. Each function is proved to do, for every
-   input, what its definition says (crates/host/src, crates/ec20/specs, crates/modbus/specs, crates/units/specs); the words here say the same in
-   short.
+   input, what its definition says (crates/host/src, crates/ec20/specs, crates/modbus/specs, crates/units/specs, crates/jobs/specs); the words here
+   say the same in short.
 
    Of every function:
    - It asks nothing of file, request, list, texts, tables and numbers: any bytes, any lengths, any values. What does not fit is refused.
    - A pointer and the size_t after it are one lent part: so many bytes (of d and tv: so many words; of list: so many declarations; of report: so
-     many pairs) can be read there, and written if it is not const. No pointer is NULL, also where the length is 0. A word stands at an even
-     address, a declaration and a pair at a multiple of 4, a size_t at a multiple of 8.
+     many pairs; of lines: so many lines) can be read there, and written if it is not const. No pointer is NULL, also where the length is 0. A
+     word stands at an even address, a declaration, a pair and a line at a multiple of 4, a size_t at a multiple of 8.
    - Lent parts that are written overlap no other. Parts that are only read, as x and file or both texts, may be one.
    - It writes what is named as written, and nothing else. It does not allocate, keeps nothing between calls, has no global state, calls memcpy
      and memset and nothing else, and always ends. It may be called from any thread, over different lent parts at the same time.
-   - Stack of the x86-64 code, measured (robustness/stack.c), in bytes: the check 12,320, a scan 62,128, the map 17,152, the move 14,128, the
-     exchange 56, the answer 296, the clashes 1,176, the longer of two texts 264. It is not proved. Only the check's walk over loops calls itself,
+   - Stack of the x86-64 code, measured (robustness/stack.c), in bytes: the check 12,320, a scan 62,128, the map 17,152, the move 12,496, the
+     exchange 56, a job 12,592, the answer 296, the clashes 1,176, the longer of two texts 264. It is not proved. Only the check's walk over loops calls itself,
      for each loop in a loop, at most 8 deep; a file of the deepest such calls was measured.
 
    number: 0, or the number of a refusal. at: the record told, counted from 0; 0 where there is none.
@@ -33,12 +33,13 @@
     11  the pool's start is above its end, or its end above 8000                                     0
     12  the block meets WORK                                                                         0
     13  an operand's words are partly in the block                                                   the first
-    14  no place                                                                                     0
-    16  a station not from 1 to 247, a reply buffer under 256 bytes, or a report under 2,016 pairs   0
+    14  no place; of a job also: two of its blocks and places meet                                   0
+    16  a station not from 1 to 247, a reply buffer under 256 bytes, a report under 2,016 pairs, or
+        a job of over 64 lines                                                                       0
 
    The check gives 1 to 8, the scan 1 to 9, the map 1 to 8, the move 1 to 8 and 10 to 14, the exchange 9, 10, 12 and 14, the answer
    9 and 16, the clashes 10 and 16, and of two texts none; the first that holds in this order (2, 3 and 4: of the first record that breaks one of
-   them). A refused call leaves file, tables, reply buffer and report as they were. */
+   them). A job gives 16, then 1 to 9, then 10 to 14 of its first line that has one, then 14 for lines that meet. A refused call leaves file, tables, reply buffer and report as they were. */
 #ifndef NINHALTO_H
 #define NINHALTO_H
 
@@ -128,6 +129,20 @@ void ninhalto_move(uint8_t *file, size_t file_size, uint32_t start, uint32_t len
 /* The exchange: the words of the block and those of the place, as long as the block, change places in the D table. Writes number and at and, unless
    refused, these words. It does not read a file: that the place is free is the move's to say. */
 void ninhalto_exchange(int16_t *d, size_t d_size, uint32_t start, uint32_t length, uint32_t place, size_t *number, size_t *at);
+
+/* The most lines of a job. */
+enum { NINHALTO_LINES = 64 };
+
+/* A job: several blocks, each moved to a place that is named for it. A line is three numbers: where the block starts, how long it is, where its place
+   starts. Each line is judged as ninhalto_move judges it on the file as it is lent, with a pool of just the place; then 14 is given if a block or
+   place of one line and a block or place of another have a word in common. d: the D table of 8,000 words, or of none if there is no table to
+   exchange; another size is 9.
+   Writes number and at; line and other: with 10 to 14 both are the line that is refused, counted from 0, but where two lines meet, line is the first
+   that meets one ahead of it and other the first of those; 0 with any other number. Unless refused, it writes what ninhalto_move and ninhalto_exchange
+   would for each line, one after the other. The lines in any order give the same file and the same table, and a job with start and place of each
+   line exchanged, over what this one left, restores both. */
+void ninhalto_job(uint8_t *file, size_t file_size, int16_t *d, size_t d_size, const uint32_t (*lines)[3], size_t lines_size, size_t *number, size_t *at,
+                  size_t *line, size_t *other);
 
 /* The answer to a Modbus RTU request, over the lent M and D: coil n is Mn, register n is Dn. station: the own one, 1 to 247. frame: the bytes of one
    request, CRC included. The functions are 1, 3, 5, 6, 15 and 16, with the quantities of the public protocol.

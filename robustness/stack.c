@@ -45,6 +45,15 @@ static void exchange(void) {
     ninhalto_exchange(d, NINHALTO_D, 100, 10, 200, &number, &at);
 }
 
+/* A job of as many lines as there may be, each of one word. */
+static void job(void) {
+    static uint32_t lines[NINHALTO_LINES][3];
+    size_t line;
+    for (uint32_t i = 0; i < NINHALTO_LINES; i++) lines[i][0] = 7000 + i, lines[i][1] = 1, lines[i][2] = 7100 + i;
+    memcpy(copy, file, size);
+    ninhalto_job(copy, size, d, NINHALTO_D, lines, NINHALTO_LINES, &number, &at, &line, &other);
+}
+
 /* The most that a frame can write and read: 1,968 coils from 13 on, which is no multiple of 8, and 2,000 coils. */
 static void answer(void) {
     static const uint8_t head[2][7] = {{1, 15, 0, 13, 1968 >> 8, 1968 & 255, 246}, {1, 1, 0, 0, 2000 >> 8, 2000 & 255}};
@@ -109,7 +118,7 @@ static void deepest(void) {
     trailer[0] = 1, trailer[2] = RECORDS, trailer[4] = (uint8_t)size, trailer[5] = (uint8_t)(size >> 8);
 }
 
-static void (*const run[])(void) = {check, scan, plain_scan, map, move, exchange, answer, clashes, longer};
+static void (*const run[])(void) = {check, scan, plain_scan, map, move, exchange, job, answer, clashes, longer};
 enum { FUNCTIONS = sizeof run / sizeof *run };
 static size_t most[FUNCTIONS];
 
@@ -121,7 +130,7 @@ static void measure(void) {
 }
 
 int main(int words, char **word) {
-    static const char *const name[] = {"check", "scan", "scan_unbudgeted", "map", "move", "exchange", "answer", "clashes", "longer"};
+    static const char *const name[] = {"check", "scan", "scan_unbudgeted", "map", "move", "exchange", "job", "answer", "clashes", "longer"};
     deepest();
     check();
     if (number) return 1;

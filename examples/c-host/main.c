@@ -1,5 +1,6 @@
 /* A host in C: it checks a program, scans it, answers a Modbus request, prints which words of a block it uses, moves the block, exchanges its words, and
-   scans again. The two scans do the same. Last it tells which declarations of a list clash, and which of two declaration texts holds the longer block.
+   scans again. The two scans do the same. Then it moves the block's two halves at once, in either order, and back. Last it tells which declarations of a
+   list clash, and which of two declaration texts holds the longer block.
    The program stands in memory; a real host reads it from a file. */
 #include "../../include/ninhalto.h"
 #include <stdio.h>
@@ -47,7 +48,7 @@ static void compose(uint8_t file[SIZE]) {
     put(file + 20 * RECORDS + 4, SIZE, 4);
 }
 
-/* ---- the eight calls */
+/* ---- the nine calls */
 
 static size_t check(const uint8_t *file, size_t size) {
     size_t number, at, records, steps;
@@ -94,6 +95,27 @@ static void exchange(struct memory *c, size_t place) {
     size_t number, at;
     ninhalto_exchange(c->d, NINHALTO_D, BLOCK, LENGTH, (uint32_t)place, &number, &at);
     printf("exchange: refusal %zu at %zu\n", number, at);
+}
+
+/* The block's two halves, each to a place of its own, and the same lines the other way round: both give the same file and the same table. Then every
+   place goes back to its block. */
+static int job(const uint8_t *file, const struct memory *c) {
+    static const uint32_t lines[][3] = {{100, 5, 400}, {105, 5, 300}}, turned[][3] = {{105, 5, 300}, {100, 5, 400}}, back[][3] = {{400, 5, 100}, {300, 5, 105}};
+    static int16_t one[NINHALTO_D], two[NINHALTO_D];
+    uint8_t first[SIZE], second[SIZE];
+    size_t number, at, line, other;
+    memcpy(first, file, SIZE);
+    memcpy(second, file, SIZE);
+    memcpy(one, c->d, sizeof one);
+    memcpy(two, c->d, sizeof two);
+    ninhalto_job(first, SIZE, one, NINHALTO_D, lines, 2, &number, &at, &line, &other);
+    printf("job: refusal %zu at %zu, line %zu, other %zu\n", number, at, line, other);
+    ninhalto_job(second, SIZE, two, NINHALTO_D, turned, 2, &number, &at, &line, &other);
+    int same = !number && !memcmp(first, second, SIZE) && !memcmp(one, two, sizeof one) && memcmp(first, file, SIZE);
+    ninhalto_job(first, SIZE, one, NINHALTO_D, back, 2, &number, &at, &line, &other);
+    same = same && !number && !memcmp(first, file, SIZE) && !memcmp(one, c->d, sizeof one);
+    puts(same ? "in either order the same, and back again" : "the order shows");
+    return same;
 }
 
 /* A master reads the first five words of the block: station 1, function 3, address, quantity, CRC. */
@@ -155,6 +177,7 @@ int main(void) {
     exchange(&after, place);
     int same = !memcmp(&before, &after, sizeof before) && !memcmp(told, told_after, sizeof told);
     puts(same ? "the moved program does the same" : "the moved program does otherwise");
+    same = job(file, &before) && same;
     clashes();
     longer();
     return !same;

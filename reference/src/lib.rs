@@ -1,6 +1,6 @@
 //! The independent reference of Ninhalto: check, scan, use map, move and exchange for
-//! programs of the EC20 series, answers to Modbus requests, and clashes of units, written from
-//! the documents alone.
+//! programs of the EC20 series, jobs of several moves, answers to Modbus requests, and clashes
+//! of units, written from the documents alone.
 
 pub mod arith;
 pub mod cases;
@@ -14,6 +14,7 @@ pub mod file;
 pub mod flow;
 pub mod generate;
 pub mod instruction;
+pub mod jobs;
 pub mod labels;
 pub mod memory;
 pub mod modbus;

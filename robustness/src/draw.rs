@@ -1,14 +1,16 @@
-//! What is drawn for one turn: a file, mostly damaged, a memory, a block, a pool and a place, a frame.
+//! What is drawn for one turn: a file, mostly damaged, a memory, a block, a pool and a place, a frame, a job.
 
 use ninhalto_reference::cases::make::random_request;
 use ninhalto_reference::compose;
 use ninhalto_reference::generate::blocks::{cutting, dense, into_gap, likely, no_place, wrong};
 use ninhalto_reference::generate::faults::{aimed, aimed_twice};
 use ninhalto_reference::generate::files::{broken_frame, damaged, garbage};
+use ninhalto_reference::generate::jobs;
 use ninhalto_reference::generate::memories;
 use ninhalto_reference::generate::program::{small, Made};
 use ninhalto_reference::generate::rng::Rng;
 use ninhalto_reference::generate::specials::over_steps;
+use ninhalto_reference::jobs::Task;
 use ninhalto_reference::memory::Memory;
 use ninhalto_reference::mover::{Block, Pool};
 use ninhalto_reference::scan::DEFAULT_BUDGET;
@@ -24,6 +26,7 @@ pub struct Drawn {
     pub station: u32,
     pub buffer: usize,
     pub frame: Vec<u8>,
+    pub tasks: Vec<Task>,
 }
 
 /// Seven of eight turns damage a file in some way; the eighth leaves it whole. One of 256 has a program that may need more
@@ -87,5 +90,6 @@ pub fn draw(rng: &mut Rng, turn: usize) -> Drawn {
     let anywhere = rng.below(8100);
     let place = rng.pick(&[near, anywhere, anywhere, u32::MAX]);
     let (station, buffer, frame) = request(rng);
-    Drawn { file, memory, elapsed, budget, block, pool, place, station, buffer, frame }
+    let tasks = jobs::any(rng, &made);
+    Drawn { file, memory, elapsed, budget, block, pool, place, station, buffer, frame, tasks }
 }

@@ -1,4 +1,4 @@
-//! robustness SEED COUNT: the proved library and the reference on COUNT files, most of them damaged; every number, table and byte of the seven
+//! robustness SEED COUNT: the proved library and the reference on COUNT files, most of them damaged; every number, table and byte of the eight
 //! functions is compared. A difference, or a write past a lent part, stops the run.
 
 mod draw;
@@ -11,13 +11,13 @@ use ninhalto_reference::memory::Memory;
 use ninhalto_reference::modbus;
 use ninhalto_reference::refusal::Refusal;
 use ninhalto_reference::scan::Answer;
-use ninhalto_reference::{check, clock, exchange, mover, scan, usemap};
+use ninhalto_reference::{check, clock, exchange, jobs, mover, scan, usemap};
 
-/// How often each number was told, 0 for no refusal: by check, scan, move, exchange, answer. Then, of the scan without a
-/// budget, how often it was refused (0), ended (1) and was stopped (2). Last, of the scans that were refused by 9, how often
+/// How often each number was told, 0 for no refusal: by check, scan, move, exchange, answer, job. Then, of the scan without
+/// a budget, how often it was refused (0), ended (1) and was stopped (2). Last, of the scans that were refused by 9, how often
 /// for a size (0), a leftover (1), the time alone (2); and of those that were not refused, how often they left no leftover (3),
 /// one (4), two (5).
-type Tally = [[u64; 17]; 7];
+type Tally = [[u64; 17]; 8];
 
 fn pair(refusal: Refusal) -> [usize; 2] {
     [refusal.number as usize, refusal.record as usize]
@@ -124,6 +124,26 @@ fn answered(drawn: &Drawn) -> usize {
     want[0]
 }
 
+/// Every second job has a table.
+fn jobbed(drawn: &Drawn, turn: u64) -> usize {
+    let before: &[i16] = if turn % 2 == 0 { &drawn.memory.d } else { &[] };
+    let lines: Vec<[u32; 3]> =
+        drawn.tasks.iter().map(|t| [t.block.start, t.block.length, t.place]).collect();
+    let (told, file, d) = proved::job(&drawn.file, before, &lines);
+    let (mut theirs, mut table) = (drawn.file.clone(), before.to_vec());
+    let lent = if before.is_empty() { None } else { Some(&mut table[..]) };
+    let want = match jobs::job(&mut theirs, lent, &drawn.tasks) {
+        Ok(()) => [0; 4],
+        Err(r) => {
+            let [number, record] = pair(r.refusal);
+            [number, record, r.line as usize, r.other as usize]
+        }
+    };
+    assert_eq!(told, want, "job");
+    assert!(file == theirs && d == table, "the file and the table after a job");
+    told[0]
+}
+
 fn turn(seed: u64, turn: u64, tally: &mut Tally) {
     let mut rng = Rng::new(seed.wrapping_mul(0x1_0000_0000).wrapping_add(turn));
     let drawn = draw(&mut rng, turn as usize);
@@ -138,8 +158,9 @@ fn turn(seed: u64, turn: u64, tally: &mut Tally) {
     tally[2][moved(&drawn)] += 1;
     tally[3][exchanged(&drawn)] += 1;
     tally[4][answered(&drawn)] += 1;
-    tally[5][plain[2]] += 1;
-    timed(&drawn, told[0]).into_iter().for_each(|which| tally[6][which] += 1);
+    tally[5][jobbed(&drawn, turn)] += 1;
+    tally[6][plain[2]] += 1;
+    timed(&drawn, told[0]).into_iter().for_each(|which| tally[7][which] += 1);
 }
 
 fn main() {
@@ -148,7 +169,7 @@ fn main() {
         eprintln!("robustness SEED COUNT");
         std::process::exit(2);
     };
-    let mut tally: Tally = [[0; 17]; 7];
+    let mut tally: Tally = [[0; 17]; 8];
     for i in 0..count {
         if std::panic::catch_unwind(std::panic::AssertUnwindSafe(|| turn(seed, i, &mut tally)))
             .is_err()
@@ -157,7 +178,7 @@ fn main() {
             std::process::exit(1);
         }
     }
-    let names = ["check", "scan", "move", "exchange", "answer", "no budget", "time"];
+    let names = ["check", "scan", "move", "exchange", "answer", "job", "no budget", "time"];
     for (name, row) in names.iter().zip(tally) {
         let told: Vec<String> = row
             .iter()

@@ -86,6 +86,18 @@ extern "C" {
         number: &mut usize,
         at: &mut usize,
     );
+    fn ninhalto_job(
+        f: *mut u8,
+        size: usize,
+        d: *mut i16,
+        d_size: usize,
+        lines: *const [u32; 3],
+        lines_size: usize,
+        number: &mut usize,
+        at: &mut usize,
+        line: &mut usize,
+        other: &mut usize,
+    );
     fn ninhalto_answer(
         station: u32,
         f: *const u8,
@@ -235,6 +247,29 @@ pub fn exchange(d: &[i16], block: Block, place: u32) -> ([usize; 2], Vec<i16>) {
         )
     }
     ([number, at], held(&lent))
+}
+
+/// Refusal, record, the lines told; the file and the table.
+pub fn job(file: &[u8], d: &[i16], lines: &[[u32; 3]]) -> ([usize; 4], Vec<u8>, Vec<i16>) {
+    let (mut f, mut table) = (Lent::new(file, 0xC3), Lent::new(d, 0x3C3C));
+    let mut lent = Lent::new(lines, [0xC3C3_C3C3; 3]);
+    let [mut number, mut at, mut line, mut other] = [UNWRITTEN; 4];
+    unsafe {
+        ninhalto_job(
+            f.lend(),
+            f.len(),
+            table.lend(),
+            table.len(),
+            lent.lend(),
+            lent.len(),
+            &mut number,
+            &mut at,
+            &mut line,
+            &mut other,
+        )
+    }
+    assert!(held(&lent) == lines);
+    ([number, at, line, other], held(&f), held(&table))
 }
 
 /// Refusal, kind and length; M, D and the reply buffer.

@@ -139,6 +139,22 @@ pub const NAME_A_BUDGET: usize = 151;
 // A memory file of 16,890 bytes, as they were before the leftovers of the timers stood in it.
 pub const OF_BEFORE: usize = 152;
 
+// Of jobs: how many moves were made; a line of the job, ahead of its block and place, and these where the block is empty; what 14, 16 and 15 mean of a
+// job; and that of the two files only the first could be replaced.
+pub const MOVES: usize = 153;
+
+pub const JOB_LINE: usize = 154;
+
+pub const NO_WORDS: usize = 155;
+
+pub const JOB_14: usize = 156;
+
+pub const JOB_16: usize = 157;
+
+pub const JOB_15: usize = 158;
+
+pub const HALF: usize = 159;
+
 // Bytes to a descriptor. Answers the descriptor, or -1 where not all was written; nothing is written to -1. So what the last of a row of calls
 // answers tells of them all.
 pub fn put(to: i32, bytes: &[u8]) -> i32 {
@@ -290,7 +306,7 @@ BUDGET: no number from 0 to 4294967295\n\0\
 SCANS: no number from 0 to 4294967295\n\0\
 ninhalto: the answer could not be written\n\0\
 ninhalto: the call is too long\n\0\
-usage: ninhalto check FILE, map [--picture] FILE, scan FILE MEMORY ELAPSED [BUDGET], move FILE START LENGTH POOLSTART POOLEND, exchange MEMORY START LENGTH PLACE, answer MEMORY STATION REQUEST, slave [--quiet] FILE MEMORY DEVICE STATION [SECONDS], clashes UNITS [FILE], longer TEXT1 TEXT2, trial OLD START LENGTH POOLSTART POOLEND MEMORY SCANS, demo, or help\n\0\
+usage: ninhalto check FILE, map [--picture] FILE, scan FILE MEMORY ELAPSED [BUDGET], move FILE START LENGTH POOLSTART POOLEND, exchange MEMORY START LENGTH PLACE, job FILE JOB [MEMORY], answer MEMORY STATION REQUEST, slave [--quiet] FILE MEMORY DEVICE STATION [SECONDS], clashes UNITS [FILE], longer TEXT1 TEXT2, trial OLD START LENGTH POOLSTART POOLEND MEMORY SCANS, demo, or help\n\0\
 %\n\0% replaced\n\0\
 : the station is not from 1 to 247\n\0\
 STATION: no number from 0 to 4294967295\n\0\
@@ -311,7 +327,14 @@ split % record %\0\
 \n2. What both units declare, examples/mixer.units: a clash, and a block that the program itself\n\
 \x20  reaches over:\n\0\
 ninhalto: stopped after % steps, since no BUDGET is named; as many as check tells are enough for any scan\n\0\
-ninhalto: a memory file of before, of 16890 bytes, needs two zero bytes more at its end: the leftovers of the timers\n\0",
+ninhalto: a memory file of before, of 16890 bytes, needs two zero bytes more at its end: the leftovers of the timers\n\0\
+moves %\n\0\
+line % of the job: \0\
+0 words from D% on to D%\0\
+: refusal 14: lines % and % of the job meet: two of their blocks and places have a word in common\n\0\
+: refusal 16: the job has over 64 lines\n\0\
+: refusal 15 at line %, counted from 0: not START, LENGTH and PLACE (0 to 4294967295, no zero ahead) with one blank between, or not ended\n\0\
+ninhalto: the program file is replaced and the memory file is not: its words are still to be exchanged\n\0",
         k,
         a,
         b,

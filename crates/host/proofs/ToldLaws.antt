@@ -10,6 +10,8 @@ use Rattle.ec20.specs.declared.Exchanged.{Exchanged}
 use Rattle.ec20.specs.declared.Mapped.{Mapped}
 use Rattle.ec20.specs.declared.Moved.{Moved}
 use Rattle.ec20.specs.declared.Verdict.{Verdict}
+use Rattle.jobs.specs.Job.{Job, job, ToldJob, toldByJob}
+use Rattle.jobs.specs.declared.Jobbed.{Jobbed}
 use Rattle.modbus.specs.Answer.{Answer, toldByAnswer}
 use Rattle.modbus.specs.declared.Answered.{Answered}
 
@@ -45,3 +47,13 @@ pub answered : {r u : Answered} {m : List ℕ} {d : List ℤ} {b : List ℕ} {s 
 answered {u = u} {s = s} e f =
     let p : toldByAnswer u ≡ toldByAnswer (s .answer) = ap toldByAnswer (sym f ∙ ap (λ (x : Answer). x .answer) e) in
     (ap (λ (x : Answer). x .m) e, (ap (λ (x : Answer). x .d) e, (ap (λ (x : Answer). x .reply) e, (ap (λ t. t .number) p, (ap (λ t. t .kind) p, ap (λ t. t .length) p)))))
+
+-- the file and the table after a job, and its four numbers, as they were told of its answer
+pub jobbed : {r : Jobbed} {f : List ℕ} {d : List ℤ} {s : Job} {n k i j : ℕ} → job r f d ≡ s
+    → (n ≡ toldByJob r .number) × ((k ≡ toldByJob r .at) × ((i ≡ toldByJob r .line) × (j ≡ toldByJob r .other)))
+    → (f ≡ s .file) × ((d ≡ s .words) × ((n ≡ toldByJob (s .answer) .number) × ((k ≡ toldByJob (s .answer) .at)
+    × ((i ≡ toldByJob (s .answer) .line) × (j ≡ toldByJob (s .answer) .other)))))
+jobbed {r = r} {s = s} e h =
+    let p : toldByJob r ≡ toldByJob (s .answer) = ap (λ (x : Job). toldByJob (x .answer)) e in
+    let of : (l : ToldJob → ℕ) → l (toldByJob r) ≡ l (toldByJob (s .answer)) = λ l. ap l p in
+    (ap (λ (x : Job). x .file) e, (ap (λ (x : Job). x .words) e, (h .0 ∙ of (λ t. t .number), (h .1 .0 ∙ of (λ t. t .at), (h .1 .1 .0 ∙ of (λ t. t .line), h .1 .1 .1 ∙ of (λ t. t .other))))))

@@ -4,6 +4,7 @@ mod answers;
 mod check;
 mod clash_lists;
 mod exchanges;
+mod job_lists;
 mod longer_lines;
 mod map;
 mod moves;

@@ -14,7 +14,7 @@ use Rattle.ec20.specs.Operands.{inD, startOf, extentOf, allowed, inWork}
 use Rattle.ec20.specs.Roles.{isWritten}
 use Rattle.moving.specs.Rename.{renameOperand, Along}
 use Rattle.blocks.specs.Apart.{Apart}
-use Rattle.blocks.proofs.Swapped.{clear, not-meets, swap-block, swap-out}
+use Rattle.blocks.proofs.Swapped.{Clear, clear, not-meets, swap-block, swap-out}
 use Rattle.moved.proofs.Along.{Fair, fair, goes-along, moved-swapped}
 use Rattle.moved.proofs.Bytes.{movedOperand}
 use Rattle.ec20.proofs.InD.{isWord, extent-in, other-number, not-in-D}
@@ -53,21 +53,23 @@ module _ {v : Device} {b : Block} {q : ℕ} {p : Place} {o : Operand} (two : Apa
     is-fair : Fair b q (startOf o) (extentOf p o)
     is-fair = fair b q p o k (fit .unsplit) (fit .unused)
 
-    -- the new extent is in the place, or it is the old one
-    extent-goes : (P : ℕ → Type 0) → ((a : ℕ) → q ≤ a → a + extentOf p o ≤ q + b .length → P a) → P (startOf o) → P (σ (startOf o))
+    -- the new extent is in the place; or it is the old one, which is clear of block and place
+    pub extent-goes : (P : ℕ → Type 0) → ((a : ℕ) → q ≤ a → a + extentOf p o ≤ q + b .length → P a)
+        → (Clear (startOf o) (extentOf p o) (b .start) (b .length) → Clear (startOf o) (extentOf p o) q (b .length) → P (startOf o))
+        → P (σ (startOf o))
     extent-goes P f g =
         elim is-fair [
           | inl h ↦
               rw (swap-block v b q two (startOf o) (h .0) (omega (arith, word, h .1)))
               (f (startOf o - b .start + q) (omega arith) (omega (arith, h .0, h .1)))
-          | inr h ↦ rw (swap-out v b q two (startOf o) (extentOf p o) (startOf o) (h .0) (h .1) (omega arith) (omega (arith, word))) g
+          | inr h ↦ rw (swap-out v b q two (startOf o) (extentOf p o) (startOf o) (h .0) (h .1) (omega arith) (omega (arith, word))) (g (h .0) (h .1))
         ]
 
     new-in : σ (startOf o) + extentOf p o ≤ v .words
-    new-in = extent-goes (λ a. a + extentOf p o ≤ v .words) (λ a l h. omega (arith, two .place-in)) (extent-in v p o k (fit .allows))
+    new-in = extent-goes (λ a. a + extentOf p o ≤ v .words) (λ a l h. omega (arith, two .place-in)) (λ _ _. extent-in v p o k (fit .allows))
 
     new-off : meetsWork v q (b .length) ≡ false → meetsWork v (startOf o) (extentOf p o) ≡ false → meetsWork v (σ (startOf o)) (extentOf p o) ≡ false
-    new-off w m = extent-goes (λ a. meetsWork v a (extentOf p o) ≡ false) (λ a l h. in-place v q (b .length) a (extentOf p o) w l h) m
+    new-off w m = extent-goes (λ a. meetsWork v a (extentOf p o) ≡ false) (λ a l h. in-place v q (b .length) a (extentOf p o) w l h) (λ _ _. m)
 
     work-D : (t : Bool) → meetsWork v q (b .length) ≡ false → (t && true && meetsWork v (startOf o) (extentOf p o)) ≡ false
         → (t && true && meetsWork v (σ (startOf o)) (extentOf p o)) ≡ false

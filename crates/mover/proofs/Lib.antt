@@ -1,4 +1,4 @@
 -- The move by its cases.
-mod Judging
+pub mod Judging
 mod Placing
 mod Moving

@@ -17,7 +17,7 @@ use ec20::Moved;
 use ec20::Verdict;
 
 // 10, 11, 12 and 13 in this order, of `count` records from the byte `first` on.
-fn judge(
+pub fn judge(
     f: &[u8],
     first: usize,
     count: usize,

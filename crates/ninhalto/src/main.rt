@@ -20,6 +20,9 @@ fn chosen(call: &[u8], out: i32, err: i32) -> Outcome {
     if unit_commands::knows(command) {
         return unit_commands::run(command, call, out, err);
     }
+    if job_commands::knows(command) {
+        return job_commands::run(call, out, err);
+    }
     file_commands::run(command, call, out, err)
 }
 

@@ -1,5 +1,4 @@
 // clashes UNITS [FILE]: which declarations of a unit list clash; and, with a program, which declared block it reaches over.
-ghost use Prim.Native.Nat.{_≤_};
 ghost use lib.ListN.{length};
 ghost use mathlib.Core.Path.{_≡_};
 use crate::shown;
@@ -86,26 +85,8 @@ fn judge(call: &[u8], list: &[u8], file: &[u8], out: i32, err: i32) -> Outcome {
     tell(text::word(call, 1), u, file, out, err)
 }
 
-// How much of a text is judged: all, or of one that fills the buffer its whole lines. Such a list has more than 64 lines, or a misspelt one, so that it is
-// refused in any case.
-fn kept(list: &[u8]) -> usize
-    ensures { λ r. ⌜ r ≤ length (now (list .entry)) ⌝ }
-{
-    let mut n = list.len();
-    if n < 65536 {
-        return n;
-    }
-    while 0 < n {
-        if list[n - 1] == b'\n' {
-            return n;
-        }
-        n -= 1;
-    }
-    list.len()
-}
-
 fn run_loaded(call: &[u8], list: &[u8], file: &[u8], out: i32, err: i32) -> Outcome {
-    let n = kept(list);
+    let n = files::kept(list);
     judge(call, &list[..n], file, out, err)
 }
 

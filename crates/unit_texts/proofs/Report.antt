@@ -5,14 +5,14 @@ use mathlib.Core.List.{List}
 use mathlib.Core.Path.{_≡_, refl}
 use native.Mathlib.Decide.{decLe}
 use native.Mathlib.Omega.{arith}
-use lib.ListN.{length}
+use lib.ListN.{length, replicate}
 use borrow.Author.Tests.{lt-leb}
-use Rattle.units.specs.Clash.{Declared, listed, tabled}
-use Rattle.units.specs.Listed.{Read}
+use Rattle.units.proofs.Walk.{kept-at}
+use Rattle.units.specs.Clash.{Declared, none, listed, tabled}
+use Rattle.units.specs.Reading.{Read}
 use Rattle.units.specs.Report.{clashesWith, clashesFrom, blocksFault, listFault, judgeClashes, reportOf}
 use Rattle.units.specs.declared.Declaration.{Declaration}
-use Rattle.unit_texts.specs.Held.{tableOf, heldOf}
-use Rattle.unit_texts.proofs.Held.{first-at}
+use Rattle.unit_texts.specs.Held.{nothing, tableOf, heldOf}
 
 -- two lists of the same count
 module _ (m : ℕ) (f g : ℕ → Declaration) where
@@ -50,9 +50,9 @@ module _ (m : ℕ) (f g : ℕ → Declaration) where
 -- the table of a list reports what the list does
 pub table-reports : (ds : List Declaration) (b : List (List ℕ)) → reportOf (tabled (tableOf ds) (length ds)) b ≡ reportOf (listed ds) b
 unfolding tableOf
-table-reports ds b = report-same (length ds) _ _ (λ h i l. first-at 64 ds i (omega arith) l) b
+table-reports ds b = report-same (length ds) _ _ (λ h i l. kept-at (replicate 64 nothing) ds i none (omega arith) l) b
 
 -- and so does what is held of a unit list that was read
-pub held-reports : (r : Read) (b : List (List ℕ)) → reportOf (tabled (heldOf r .table) (heldOf r .count)) b ≡ reportOf (listed (r .list)) b
+pub held-reports : (r : Read Declaration) (b : List (List ℕ)) → reportOf (tabled (heldOf r .table) (heldOf r .count)) b ≡ reportOf (listed (r .list)) b
 unfolding heldOf
 held-reports r b = table-reports (r .list) b

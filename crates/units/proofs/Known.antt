@@ -8,7 +8,8 @@ use Rattle.ec20.specs.declared.Judged.the-variants.{Fine, Fault}
 use Rattle.units.specs.Clash.{listed, clashOf}
 use Rattle.units.specs.Report.{pair, clashesOf, judgeClashes, reportOf, reported}
 use Rattle.units.specs.Text.{firstLine, longerOf}
-use Rattle.units.specs.Listed.{read, declaration, unitsOf}
+use Rattle.units.specs.Listed.{declaration, unitsOf}
+use Rattle.units.specs.Reading.{read}
 use Rattle.units.specs.declared.Clashed.the-variants.{Refused, Clashes}
 use Rattle.units.specs.declared.Declaration.{Declaration}
 use Rattle.units.specs.declared.Line.the-variants as L

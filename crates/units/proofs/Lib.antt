@@ -2,3 +2,4 @@ pub mod Computing
 pub mod Known
 pub mod Part
 pub mod Pairs
+pub mod Walk

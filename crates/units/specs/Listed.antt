@@ -1,12 +1,11 @@
 -- A unit list as text (ours): a line for each declaration, its unit (0 to 65535), blank, and the declaration as in a declaration text, with start and length
 -- up to 4294967295, so that 10 is for the list to say. A line that is not so spelt is 15.
-use Prim.Native.Nat.{ℕ, zero, suc, _+_}
-use mathlib.Core.List.{List, [], _∷_}
+use Prim.Native.Nat.{ℕ, _+_}
+use mathlib.Core.List.{List}
 use lib.ListN.{length, take, drop}
-use lib.Dec.{leb, eqb}
+use lib.Dec.{eqb}
 use Rattle.ec20.specs.Basics.{pick}
-use Rattle.ec20.specs.declared.Judged.{Judged}
-use Rattle.ec20.specs.declared.Judged.the-variants.{Fine, Fault}
+use Rattle.units.specs.Reading.{Entry, misspelt, spelt, Read, linesOf}
 use Rattle.units.specs.Spelling.{blank, byteIn, numberAt}
 use Rattle.units.specs.Text.{lineAt}
 use Rattle.units.specs.declared.Declaration.{Declaration}
@@ -34,36 +33,11 @@ unitAt s from = unitByNumber s (numberAt s from 65535)
 abbrev pub declaration : List ℕ → ℕ → ℕ → ℕ → ℕ → Declaration
 declaration s u p a n = record { unit = u; name = take 8 (drop p s); start = a; length = n }
 
--- What is read of a list: the first line that is misspelt (15), and the declarations ahead of it.
-pub record Read : Type 0 where
-  pub fault : Judged
-  pub list : List Declaration
+-- such a line as an entry
+abbrev pub entryOf : List ℕ → UnitLine → Entry Declaration
+entryOf s U.Misspelt = misspelt
+entryOf s (U.Spelt u p a n e) = spelt (declaration s u p a n) e
 
-abbrev pub read : Judged → List Declaration → Read
-read j ds = record { fault = j; list = ds }
-
--- one declaration, and what comes after it
-abbrev pub more : Declaration → Read → Read
-more d r = read (r .fault) (d ∷ r .list)
-
--- the place after a line
-abbrev pub nextOf : UnitLine → ℕ
-nextOf U.Misspelt = 0
-nextOf (U.Spelt u p a n e) = e
-
--- what is read from line k on: the line was read as this, and what comes after it as `rest`
-abbrev pub readBy : List ℕ → ℕ → UnitLine → Read → Read
-readBy s k U.Misspelt rest = read (Fault 15 k) []
-readBy s k (U.Spelt u p a n e) rest = more (declaration s u p a n) rest
-
--- the lines from byte `from` on, the first of which is line k; m is at least their number
-unfoldable pub readFrom : ℕ → List ℕ → ℕ → ℕ → Read
-readFrom zero s from k = read Fine []
-readFrom (suc m) s from k =
-    let line = unitAt s from in
-    let rest = readFrom m s (nextOf line) (k + 1) in
-    pick (leb (length s) from) (read Fine []) (readBy s k line rest)
-
--- a whole unit list: each line has a byte at least
-unfoldable pub unitsOf : List ℕ → Read
-unitsOf s = readFrom (length s) s 0 0
+-- a whole unit list: the first line that is misspelt (15), and the declarations ahead of it
+unfoldable pub unitsOf : List ℕ → Read Declaration
+unitsOf s = linesOf (λ from. entryOf s (unitAt s from)) (length s)

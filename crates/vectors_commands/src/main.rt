@@ -1,6 +1,7 @@
 // Runs the calls of the file `calls`, a call a line, with both descriptors at standard output, and tells what came of each. The first word of a line
 // names the file of which `it` is a copy before the call, the second the file that `it` is like after it, or like with two bytes more: the leftovers of a
-// slave, whose time is the clock's; the others are the call. The first is - where the call changes nothing, and closed where its answer is lost.
+// slave, whose time is the clock's; the others are the call. The first is - where the call changes nothing, and closed where its answer is lost. It is both
+// where two files may change, `it` and `that`: then four words name what `it` is before and after the call, and what `that` is.
 mod lines;
 mod room;
 
@@ -25,21 +26,23 @@ fn tell(o: Outcome) {
     }
 }
 
-// What `it` is after the call. fd: the file that it was before.
-fn tell_it(before: &[u8], after: &[u8], fd: i32) {
-    if room::alike(b"it", before) {
-        say(b", it as before");
-    } else if room::alike(b"it", after) {
-        say(b", it as ");
+// What the file of this name, `it` or `that`, is after the call. fd: the file that it was before.
+fn tell_file(name: &[u8], before: &[u8], after: &[u8], fd: i32) {
+    say(b", ");
+    say(name);
+    if room::alike(name, before) {
+        say(b" as before");
+    } else if room::alike(name, after) {
+        say(b" as ");
         say(after);
-    } else if room::is_timed(b"it", after) {
-        say(b", it as ");
+    } else if room::is_timed(name, after) {
+        say(b" as ");
         say(after);
         say(b" with leftovers");
     } else {
-        say(b", it is neither");
+        say(b" is neither");
     }
-    if room::is_at(b"it", fd) {
+    if room::is_at(name, fd) {
         say(b", the same file");
     } else {
         say(b", a new file");
@@ -58,6 +61,9 @@ fn chosen(call: &[u8], out: i32, err: i32) -> Outcome {
     if unit_commands::knows(command) {
         return unit_commands::run(command, call, out, err);
     }
+    if job_commands::knows(command) {
+        return job_commands::run(call, out, err);
+    }
     file_commands::run(command, call, out, err)
 }
 
@@ -66,8 +72,21 @@ fn run_over(before: &[u8], after: &[u8], call: &[u8]) {
     room::put(before, b"it");
     let fd = os::open_append(b"it");
     tell(chosen(call, STDOUT_FILENO, STDOUT_FILENO));
-    tell_it(before, after, fd);
+    tell_file(b"it", before, after, fd);
     libc::close(fd);
+}
+
+// A call over copies of two files, which the words 1 to 4 of the line name.
+fn run_both(line: &[u8]) {
+    room::put(text::word(line, 1), b"it");
+    room::put(text::word(line, 3), b"that");
+    let it = os::open_append(b"it");
+    let that = os::open_append(b"that");
+    tell(chosen(text::rest(line, 5), STDOUT_FILENO, STDOUT_FILENO));
+    tell_file(b"it", text::word(line, 1), text::word(line, 2), it);
+    tell_file(b"that", text::word(line, 3), text::word(line, 4), that);
+    libc::close(it);
+    libc::close(that);
 }
 
 // The line as a call.
@@ -78,6 +97,8 @@ fn run(line: &[u8]) {
         tell(chosen(call, STDOUT_FILENO, STDOUT_FILENO));
     } else if same(before, b"closed") {
         tell(chosen(call, CLOSED, STDOUT_FILENO));
+    } else if same(before, b"both") {
+        run_both(line);
     } else {
         run_over(before, text::word(line, 1), call);
     }

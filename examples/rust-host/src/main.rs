@@ -1,6 +1,6 @@
 //! A host in Rust: it checks a program, scans it, answers a Modbus request, prints which words of a block it uses, moves the block, exchanges its
-//! words, and scans again. The two scans do the same. Last it tells which declarations of a list clash, and which of two declaration texts holds the
-//! longer block. The program stands in memory; a real host reads it from a file.
+//! words, and scans again. The two scans do the same. Then it moves the block's two halves at once, in either order, and back. Last it tells which
+//! declarations of a list clash, and which of two declaration texts holds the longer block. The program stands in memory; a real host reads it from a file.
 
 mod ninhalto;
 
@@ -94,6 +94,22 @@ fn exchange(memory: &mut Memory, place: u32) -> Result<(), Refusal> {
     Ok(())
 }
 
+/// The block's two halves, each to a place of its own, and the same lines the other way round: both give the same file and the same table. Then every
+/// place goes back to its block.
+fn job(file: &[u8], memory: &Memory) -> Result<bool, Refusal> {
+    let lines = [[100, 5, 400], [105, 5, 300]];
+    let (mut first, mut one) = (file.to_vec(), memory.d);
+    let (mut second, mut two) = (file.to_vec(), memory.d);
+    ninhalto::job(&mut first, &mut one, &lines)?;
+    println!("job: refusal 0 at 0, line 0, other 0");
+    ninhalto::job(&mut second, &mut two, &[lines[1], lines[0]])?;
+    let same = first == second && one == two && first != file;
+    ninhalto::job(&mut first, &mut one, &[[400, 5, 100], [300, 5, 105]])?;
+    let same = same && first == file && one == memory.d;
+    println!("{}", if same { "in either order the same, and back again" } else { "the order shows" });
+    Ok(same)
+}
+
 /// A master reads the first five words of the block: station 1, function 3, address, quantity, CRC.
 fn answer(memory: &mut Memory) -> Result<(), Refusal> {
     let request = [0x01, 0x03, 0x00, 0x64, 0x00, 0x05, 0xc4, 0x16];
@@ -172,6 +188,9 @@ fn main() -> Result<(), Refusal> {
         std::process::exit(1);
     }
     println!("the moved program does the same");
+    if !job(&file, &before)? {
+        std::process::exit(1);
+    }
     clashes()?;
     longer();
     Ok(())

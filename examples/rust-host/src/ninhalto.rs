@@ -98,6 +98,18 @@ extern "C" {
         number: &mut usize,
         at: &mut usize,
     );
+    fn ninhalto_job(
+        f: *mut u8,
+        size: usize,
+        d: *mut i16,
+        d_size: usize,
+        lines: *const [u32; 3],
+        lines_size: usize,
+        number: &mut usize,
+        at: &mut usize,
+        line: &mut usize,
+        other: &mut usize,
+    );
     fn ninhalto_answer(
         station: u32,
         f: *const u8,
@@ -223,6 +235,27 @@ pub fn exchange(d: &mut [i16], start: u32, length: u32, place: u32) -> Result<()
     let (mut number, mut at) = (0, 0);
     unsafe {
         ninhalto_exchange(d.as_mut_ptr(), d.len(), start, length, place, &mut number, &mut at)
+    }
+    unless_refused(number, at, ())
+}
+
+/// Several blocks, each to its own place: a line is start, length and place. File and table are changed where they are lent, together or not at all; a
+/// table of no words is none. Which lines a refusal is told at is left out here.
+pub fn job(file: &mut [u8], d: &mut [i16], lines: &[[u32; 3]]) -> Result<(), Refusal> {
+    let (mut number, mut at, mut line, mut other) = (0, 0, 0, 0);
+    unsafe {
+        ninhalto_job(
+            file.as_mut_ptr(),
+            file.len(),
+            d.as_mut_ptr(),
+            d.len(),
+            lines.as_ptr(),
+            lines.len(),
+            &mut number,
+            &mut at,
+            &mut line,
+            &mut other,
+        )
     }
     unless_refused(number, at, ())
 }

@@ -7,7 +7,7 @@ use crate::exchange::exchange;
 use crate::mover::Block;
 
 /// The largest wrong size of a lent D table.
-const MOST_WORDS: u32 = 8192;
+pub const MOST_WORDS: u32 = 8192;
 
 #[derive(Clone, Copy, PartialEq, Eq, Debug)]
 pub struct ExchangeCase {

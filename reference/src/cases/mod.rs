@@ -6,6 +6,7 @@ pub mod checksum;
 pub mod exchanges;
 pub mod filefield;
 pub mod groups;
+pub mod jobs;
 pub mod leaves;
 pub mod lists;
 pub mod make;
@@ -24,7 +25,7 @@ use bytes::Writer;
 use filefield::FileField;
 
 /// The kinds of case files, in the order of their numbers from 1.
-pub const KINDS: [&str; 10] = [
+pub const KINDS: [&str; 11] = [
     "leaves",
     "checks",
     "scans",
@@ -35,6 +36,7 @@ pub const KINDS: [&str; 10] = [
     "lists",
     "texts",
     "unitlists",
+    "jobs",
 ];
 
 pub const LEAVES: u32 = 1;
@@ -47,6 +49,7 @@ pub const REQUESTS: u32 = 7;
 pub const LISTS: u32 = 8;
 pub const TEXTS: u32 = 9;
 pub const UNIT_LISTS: u32 = 10;
+pub const JOBS: u32 = 11;
 
 /// The whole leaf file: word and pair leaves, then the section of groups.
 fn leaf_file(rng: &mut Rng, count: u32) -> Vec<u8> {
@@ -134,6 +137,15 @@ fn unit_list_file(rng: &mut Rng, count: u32) -> Vec<u8> {
     out.bytes
 }
 
+fn job_file(rng: &mut Rng, count: u32) -> Vec<u8> {
+    let mut out = Writer::file(JOBS, count);
+    let mut files = FileField::default();
+    for case in make::job_cases(rng, count as usize) {
+        case.write(&mut files, &mut out);
+    }
+    out.bytes
+}
+
 /// A whole case file by the name of its kind; none if there is no such kind.
 pub fn case_file(kind: &str, seed: u64, count: u32) -> Option<Vec<u8>> {
     let rng = &mut Rng::new(seed);
@@ -148,6 +160,7 @@ pub fn case_file(kind: &str, seed: u64, count: u32) -> Option<Vec<u8>> {
         "lists" => list_file(rng, count),
         "texts" => text_file(rng, count),
         "unitlists" => unit_list_file(rng, count),
+        "jobs" => job_file(rng, count),
         _ => return None,
     })
 }

@@ -6,6 +6,7 @@ use super::checks::CheckCase;
 use super::exchanges::ExchangeCase;
 use super::filefield::FileField;
 use super::groups::Group;
+use super::jobs::JobCase;
 use super::leaves::Leaf;
 use super::lists::ListCase;
 use super::maps::MapCase;
@@ -18,6 +19,7 @@ use crate::check::check;
 use crate::clock::{self, LONGEST_ELAPSED};
 use crate::file::Record;
 use crate::instruction::Instruction;
+use crate::jobs::MOST as MOST_LINES;
 use crate::memory::{IMAGE, REST};
 use crate::scan::scan_watched;
 use crate::units::{Clash, MOST, ROOM};
@@ -34,6 +36,22 @@ pub struct ListReach {
     /// Clashes of each kind.
     pub two_blocks: u64,
     pub shared_words: u64,
+}
+
+/// What the jobs meet.
+#[derive(Clone, Copy, Default)]
+pub struct JobReach {
+    /// Accepted jobs, those of two lines or more, and those that change the file.
+    pub done: u64,
+    pub several: u64,
+    pub changing: u64,
+    /// Moves of the accepted jobs.
+    pub moves: u64,
+    /// Refused since two lines meet.
+    pub meetings: u64,
+    /// Jobs of 64 lines that are not refused for it, and longer ones.
+    pub full: u64,
+    pub over: u64,
 }
 
 /// What the scans meet of time.
@@ -73,6 +91,7 @@ pub struct Reach {
     pub texts: [u64; 3],
     /// Lines of unit lists that are well spelt, ahead of the first that is not.
     pub lines: u64,
+    pub jobs: JobReach,
 }
 
 impl Default for Reach {
@@ -95,6 +114,7 @@ impl Default for Reach {
             lists: ListReach::default(),
             texts: [0; 3],
             lines: 0,
+            jobs: JobReach::default(),
         }
     }
 }
@@ -125,6 +145,20 @@ impl TimeReach {
             }
             _ => {}
         }
+    }
+}
+
+impl JobReach {
+    fn add(&mut self, case: &JobCase) {
+        let lines = case.asked.tasks.len();
+        let done = case.refusal == 0;
+        self.done += u64::from(done);
+        self.several += u64::from(done && lines > 1);
+        self.changing += u64::from(!case.changes.is_empty());
+        self.moves += u64::from(case.moves);
+        self.meetings += u64::from(case.is_meeting());
+        self.full += u64::from(lines == MOST_LINES);
+        self.over += u64::from(lines > MOST_LINES);
     }
 }
 
@@ -307,6 +341,17 @@ impl Reach {
         Some(())
     }
 
+    fn jobs(&mut self, from: &mut Reader, count: u32) -> Option<()> {
+        let mut files = FileField::default();
+        for _ in 0..count {
+            let case = JobCase::read(&mut files, from)?;
+            self.count(case.refusal, JobCase::solve(case.asked.clone()) == case);
+            self.list(&case.asked.file);
+            self.jobs.add(&case);
+        }
+        Some(())
+    }
+
     /// Adds a whole case file; none if it is not one, or not exactly one.
     pub fn add(&mut self, bytes: &[u8]) -> Option<()> {
         let mut from = Reader::new(bytes);
@@ -322,6 +367,7 @@ impl Reach {
             super::LISTS => self.lists(&mut from, count)?,
             super::TEXTS => self.texts(&mut from, count)?,
             super::UNIT_LISTS => self.unit_lists(&mut from, count)?,
+            super::JOBS => self.jobs(&mut from, count)?,
             _ => return None,
         }
         from.at_end().then_some(())

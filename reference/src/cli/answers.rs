@@ -21,7 +21,7 @@ pub fn check(file: &str) -> Said {
 }
 
 /// A memory file of a wrong size is lent as tables of wrong sizes: here, none at all.
-fn memory_of(image: &[u8]) -> Memory {
+pub fn memory_of(image: &[u8]) -> Memory {
     let none = Memory { d: Vec::new(), ..Memory::zero() };
     Memory::from_image(image).unwrap_or(none)
 }

@@ -56,6 +56,13 @@ fn units(reach: &Reach) -> String {
     format!("lists {lists} over {}\nclashes {kinds}\n{texts}\nunit lines {}\n", l.over, reach.lines)
 }
 
+fn jobs(reach: &Reach) -> String {
+    let j = &reach.jobs;
+    let done = format!("done {} of several {} changing {}", j.done, j.several, j.changing);
+    let lines = format!("of 64 lines {} over {}", j.full, j.over);
+    format!("jobs {done} moves {} meetings {} {lines}\n", j.moves, j.meetings)
+}
+
 /// Sums over all the files given.
 pub fn coverage(paths: &[&str]) -> Said {
     let mut reach = Reach::default();
@@ -71,6 +78,7 @@ pub fn coverage(paths: &[&str]) -> Said {
     text += &format!("groups and bits {}\n", reach.groups);
     text += &requests(&reach);
     text += &units(&reach);
+    text += &jobs(&reach);
     let differ = reach.cases - reach.agree;
     text += &format!("{} agree, {differ} differ\n", reach.agree);
     Ok((text.into(), i32::from(differ > 0)))

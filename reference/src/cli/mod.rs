@@ -2,6 +2,7 @@
 
 mod answers;
 mod coverage;
+mod jobs;
 mod storm;
 mod units;
 mod vectors;
@@ -15,10 +16,11 @@ const USAGE: &str = "usage: ninhalto-reference
   map FILE
   move FILE START LENGTH POOLSTART POOLEND
   exchange MEMORY START LENGTH PLACE
+  job FILE JOB [MEMORY]
   answer MEMORY STATION REQUEST
   clashes UNITS [FILE]
   longer TEXT1 TEXT2
-  leaves|checks|scans|moves|exchanges|maps|requests|lists|texts|unitlists PATH SEED COUNT
+  leaves|checks|scans|moves|exchanges|maps|requests|lists|texts|unitlists|jobs PATH SEED COUNT
   coverage CASEFILE..
   storm SEED COUNT
   selftest";
@@ -53,6 +55,8 @@ fn dispatch(words: &[&str]) -> Said {
         ["map", file] => answers::map(file),
         ["move", file, numbers @ ..] => answers::move_block(file, numbers),
         ["exchange", memory, numbers @ ..] => answers::exchange(memory, numbers),
+        ["job", file, job] => jobs::job(file, job, None),
+        ["job", file, job, memory] => jobs::job(file, job, Some(memory)),
         ["answer", memory, station, request] => answers::answer(memory, number(station)?, request),
         ["clashes", units] => units::clashes(units, None),
         ["clashes", units, file] => units::clashes(units, Some(file)),

@@ -10,7 +10,8 @@ fn describe(t: &Tally) -> String {
     let requests = format!("requests {} replies {}", t.requests, t.replies);
     let units = format!("lists {} clashes {} lines {}", t.lists, t.clashes, t.lines);
     let times = format!("times {} in scans {}", t.times, t.parts);
-    format!("{files}, {scans}, {moves}, {requests}, {units}, {times}\nall held\n")
+    let jobs = format!("jobs {} done {}", t.jobs, t.jobs_done);
+    format!("{files}, {scans}, {moves}, {requests}, {units}, {times}, {jobs}\nall held\n")
 }
 
 pub fn storm(seed: u32, count: u32) -> Said {

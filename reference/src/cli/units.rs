@@ -10,7 +10,7 @@ use crate::refusal::Refusal;
 use crate::units::{self, listed, text, Clash, Declaration, Pair, ROOM};
 
 /// Told as the product does: a block of one word by that word alone.
-fn words(block: Block) -> String {
+pub fn words(block: Block) -> String {
     match block.length {
         1 => format!("D{}", block.start),
         length => format!("D{}-D{}", block.start, block.start + length - 1),

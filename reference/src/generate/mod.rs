@@ -1,4 +1,4 @@
-//! Generators of inputs: programs, faults, files, memories, blocks and pools, requests,
+//! Generators of inputs: programs, faults, files, memories, blocks and pools, jobs, requests,
 //! declarations.
 
 pub mod blocks;
@@ -8,6 +8,7 @@ pub mod edge_programs;
 pub mod edges;
 pub mod faults;
 pub mod files;
+pub mod jobs;
 pub mod memories;
 pub mod operands;
 pub mod program;

@@ -1,6 +1,7 @@
 //! The storm: many random inputs, and what must hold of every answer. It shows that no
 //! input stops the reference, and that its parts agree with each other.
 
+mod jobs;
 mod moves;
 mod refused;
 mod requests;
@@ -38,6 +39,8 @@ pub struct Tally {
     /// Times that were split, and the scans that they were given to.
     pub times: u64,
     pub parts: u64,
+    pub jobs: u64,
+    pub jobs_done: u64,
 }
 
 /// What did not hold, in words.
@@ -98,7 +101,9 @@ pub fn storm(seed: u64, count: u32) -> Result<Tally, String> {
     for turn in 0..count {
         // Each round has a seed of its own, so that a failing one can be run alone.
         let own = seed.wrapping_mul(0x1_0000_0000).wrapping_add(u64::from(turn));
-        round(&mut Rng::new(own), turn as usize, &mut tally)
+        let rng = &mut Rng::new(own);
+        round(rng, turn as usize, &mut tally)
+            .and_then(|()| jobs::round(rng, turn as usize, &mut tally))
             .map_err(|what| format!("round {turn}: {what}"))?;
     }
     Ok(tally)
@@ -113,5 +118,6 @@ mod tests {
         assert!(tally.requests == 6000 && tally.replies > 2000);
         assert!(tally.lists == 1500 && tally.clashes > 10_000 && tally.lines > 800);
         assert!(tally.times == 1500 && tally.parts > 10_000);
+        assert!(tally.jobs == 1500 && tally.jobs_done > 400);
     }
 }

@@ -1,6 +1,6 @@
 //! The unit list of the command as text: a line `UNIT NAME START LENGTH` for each declaration.
 
-use super::spelling::{block, number, BLANK, LINE_FEED};
+use super::spelling::{block, lines, number, BLANK};
 use super::{Declaration, Name};
 use crate::refusal::Refusal;
 
@@ -23,18 +23,8 @@ fn declaration(line: &[u8]) -> Option<Declaration> {
 }
 
 pub fn read(text: &[u8]) -> Listed {
-    let mut declarations = Vec::new();
-    for line in text.split_inclusive(|&byte| byte == LINE_FEED) {
-        // A last line that is not ended is misspelt too.
-        match line.strip_suffix(&[LINE_FEED]).and_then(declaration) {
-            Some(declaration) => declarations.push(declaration),
-            None => {
-                let refusal = Some(Refusal::new(15, declarations.len()));
-                return Listed { declarations, refusal };
-            }
-        }
-    }
-    Listed { declarations, refusal: None }
+    let (declarations, refusal) = lines(text, declaration);
+    Listed { declarations, refusal }
 }
 
 /// The declarations of a list that is well spelt as a whole.

@@ -1,6 +1,7 @@
 //! Numbers and blocks as the texts of document 02 spell them.
 
 use crate::mover::Block;
+use crate::refusal::Refusal;
 
 pub const BLANK: u8 = b' ';
 pub const LINE_FEED: u8 = b'\n';
@@ -20,6 +21,22 @@ pub fn block(line: &[u8], most: u32) -> Option<(&[u8], Block)> {
     let length = number(fields.next()?, most)?;
     let start = number(fields.next()?, most)?;
     Some((fields.next()?, Block { start, length }))
+}
+
+/// The lines of a text as far as they are well spelt, and 15 at the first that is not.
+pub fn lines<T>(text: &[u8], one: fn(&[u8]) -> Option<T>) -> (Vec<T>, Option<Refusal>) {
+    let mut found = Vec::new();
+    for line in text.split_inclusive(|&byte| byte == LINE_FEED) {
+        // A last line that is not ended is misspelt too.
+        match line.strip_suffix(&[LINE_FEED]).and_then(one) {
+            Some(entry) => found.push(entry),
+            None => {
+                let refusal = Refusal::new(15, found.len());
+                return (found, Some(refusal));
+            }
+        }
+    }
+    (found, None)
 }
 
 #[cfg(test)]

@@ -2,6 +2,7 @@
 
 mod checks;
 mod exchanges;
+mod jobs;
 mod lists;
 mod maps;
 mod moves;
@@ -13,6 +14,7 @@ mod unitlists;
 
 pub use checks::check_cases;
 pub use exchanges::exchange_cases;
+pub use jobs::job_cases;
 pub use lists::{list_cases, random_list};
 pub use maps::map_cases;
 pub use moves::move_cases;

@@ -1,16 +1,16 @@
--- What is left of the text falls.
+-- What is left of the text falls. Assumes nothing.
 use Prim.Native.Nat.{_≤_}
 use lib.ListN.{length}
 use native.Mathlib.Omega.{arith}
 use borrow.Author.Needs.{needs}
-use Rattle.unit_commands.proofs.lists.kept.Statement.{statement}
-use Rattle.unit_commands.proofs.lists.kept.Tie as tie
+use Rattle.calls.proofs.files.kept.Statement.{statement}
+use Rattle.calls.proofs.files.kept.Tie as tie
 
 abbrev Inv-loop : tie.InvT-loop
-Inv-loop list n₀ n = n ≤ length list
+Inv-loop text n₀ n = n ≤ length text
 
 abbrev μ-loop : tie.MeasureT-loop
-μ-loop list n₀ n = n
+μ-loop text n₀ n = n
 
 pub kept-spec : {M : Type 1} → statement M
 kept-spec =

@@ -1,0 +1,2 @@
+-- What a job makes of a memory file.
+pub mod Images
