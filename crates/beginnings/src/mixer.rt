@@ -6,7 +6,7 @@ use telling::{report, spans};
 use unit_commands::lists;
 
 // status: 0 where the story goes on, at `to`; else what came of the call.
-#[derive(Drop)]
+#[derive(Clone, Copy)]
 pub struct Told {
     pub to: i32,
     pub status: usize,

@@ -13,7 +13,7 @@ use ec20::{DEFAULT_BUDGET, Report, Scanned};
 use telling::report;
 
 // good: both are numbers.
-#[derive(Drop)]
+#[derive(Clone, Copy)]
 pub struct Scan {
     pub elapsed: u32,
     pub budget: u32,
@@ -50,7 +50,7 @@ pub fn asked(call: &[u8], err: i32) -> Scan
 }
 
 // How many bytes the program file and the memory file have, and whether both were read.
-#[derive(Drop)]
+#[derive(Clone, Copy)]
 pub struct Sizes {
     pub program: usize,
     pub memory: usize,

@@ -69,7 +69,7 @@ fn line(to: i32, k: u32, t: Turn, alike: bool) -> i32 {
 }
 
 // Where the lines of a trial go, how many of its scans differ, and what was counted since it was told how far it is.
-#[derive(Drop)]
+#[derive(Clone, Copy)]
 pub struct Sum {
     pub to: i32,
     pub differ: u32,

@@ -13,7 +13,7 @@ use telling::report;
 
 // A move of a program: the block and the pool, the scans that follow it, the word of the call that names the memory, and
 // whether the mixer's story comes first. Word 1 names the program. good: each is a number.
-#[derive(Drop)]
+#[derive(Clone, Copy)]
 pub struct Tried {
     pub start: u32,
     pub length: u32,
@@ -69,7 +69,7 @@ pub fn wanted(command: usize, call: &[u8], err: i32) -> Tried
 }
 
 // status: 0 where the scans follow, told at `to`; else what came of the call. n: the bytes of each program.
-#[derive(Drop)]
+#[derive(Clone, Copy)]
 pub struct Begun {
     pub to: i32,
     pub status: usize,
@@ -93,7 +93,7 @@ fn stopped(status: usize) -> Begun
 }
 
 // A memory file by its bytes: whether a scan would take it, and how many there are.
-#[derive(Drop)]
+#[derive(Clone, Copy)]
 pub struct Lent {
     pub fits: bool,
     pub size: usize,

@@ -6,7 +6,7 @@ use crate::errors;
 
 // How many bytes stand at the start of the buffer, how many of the file stand behind them, if that was asked, and whether they are the whole file, or, if it
 // was not asked, as much of it as the buffer holds.
-#[derive(Drop)]
+#[derive(Clone, Copy)]
 pub struct Bytes {
     pub n: usize,
     pub more: usize,

@@ -27,7 +27,7 @@ pub const STATION: usize = texts::NO_STATION;
 pub const SECONDS: usize = texts::NO_SECONDS;
 
 // An unsigned 32-bit number; 0 where there is none.
-#[derive(Drop)]
+#[derive(Clone, Copy)]
 pub struct Number {
     pub n: u32,
     pub good: bool,
@@ -99,7 +99,7 @@ pub fn err_after(good: bool, err: i32) -> i32
 }
 
 // A block of D words and the pool in which it looks for a place. good: each of the four is a number.
-#[derive(Drop)]
+#[derive(Clone, Copy)]
 pub struct Asked {
     pub start: u32,
     pub length: u32,

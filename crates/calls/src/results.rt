@@ -5,7 +5,7 @@ ghost use Rattle.std.specs.Prelude.{◌≡◌, false};
 use crate::texts;
 
 // status: 0 answered, 1 refused or found to differ, 2 not tried or not told. replaced: whether a file was.
-#[derive(Drop)]
+#[derive(Clone, Copy)]
 pub struct Outcome {
     pub status: usize,
     pub replaced: bool,

@@ -9,7 +9,7 @@ use ec20::Judged;
 use units::{Clashed, Declaration, Table};
 
 // The rows of a list: which places clash with which, as numbers; and whether each block is neither empty nor out of range.
-#[derive(Drop)]
+#[derive(Clone, Copy)]
 pub struct Rows {
     pub right: bool,
     pub of: [u64; 64],

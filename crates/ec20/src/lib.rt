@@ -4,7 +4,7 @@
 // ---- the instruction table
 
 // A place for an operand: its role (specs/Roles.antt names them), its width in bits, and how many D words it takes there.
-#[derive(Drop)]
+#[derive(Clone, Copy)]
 pub struct Place {
     pub role: u8,
     pub width: u8,
@@ -13,7 +13,7 @@ pub struct Place {
 
 // The row of an instruction number: whether there is one, which form of instruction it makes (specs/Forms.antt names the forms), and the
 // places of its operands.
-#[derive(Drop)]
+#[derive(Clone, Copy)]
 pub struct Row {
     pub known: bool,
     pub form: u8,
@@ -25,14 +25,14 @@ pub struct Row {
 // ---- the file
 
 // The frame of a file: the byte at which the first record begins, and how many there are; or broken.
-#[derive(Drop)]
+#[derive(Clone, Copy)]
 pub enum Frame {
     Whole { first: usize, count: usize },
     Broken,
 }
 
 // Kinds: 0 none, 1 constant, 2 X, 3 Y, 4 M, 5 SM, 6 T, 7 D, 8 label. value: the four bytes, as an unsigned number.
-#[derive(Drop)]
+#[derive(Clone, Copy)]
 pub struct Operand {
     pub kind: usize,
     pub group: usize,
@@ -40,7 +40,7 @@ pub struct Operand {
 }
 
 // A record: instruction number, spare byte, three operands.
-#[derive(Drop)]
+#[derive(Clone, Copy)]
 pub struct Rec {
     pub number: usize,
     pub spare: usize,
@@ -51,7 +51,7 @@ pub struct Rec {
 
 // A record as an instruction. Contact, Compare, Join, Branch, Coil, Word: first the instruction's number, then its operands (Word: two
 // sources, a target). Timer: the timer's number, its constant. For: the passes. Jump, Label: the label.
-#[derive(Drop)]
+#[derive(Clone, Copy)]
 pub enum Instr {
     Nop,
     Contact(usize, Operand),
@@ -71,7 +71,7 @@ pub enum Instr {
 // ---- the check
 
 // No fault, or the number of a refusal and its record.
-#[derive(Drop)]
+#[derive(Clone, Copy)]
 pub enum Judged {
     Fine,
     Fault(usize, usize),
@@ -79,7 +79,7 @@ pub enum Judged {
 
 // What the rung rule keeps from record to record: whether flow is present, whether the last instruction other than NOP was an
 // action, and how many entries each stack holds.
-#[derive(Drop)]
+#[derive(Clone, Copy)]
 pub struct Rung {
     pub present: bool,
     pub action: bool,
@@ -88,7 +88,7 @@ pub struct Rung {
 }
 
 // A record as loops and jumps see it: FOR with its passes, NEXT, CJ and LBL with their label, END, and all others.
-#[derive(Drop)]
+#[derive(Clone, Copy)]
 pub enum Control {
     Plain,
     Opens(usize),
@@ -99,7 +99,7 @@ pub enum Control {
 }
 
 // What a search gives.
-#[derive(Drop)]
+#[derive(Clone, Copy)]
 pub enum Found {
     At(usize),
     Nowhere,
@@ -107,7 +107,7 @@ pub enum Found {
 
 // How the code finds a label or a NEXT, 6 and W (specs/Walkers.antt). What a record does to a search: it is the one, it ends the body
 // searched, or the search goes on so deep in loops inside it.
-#[derive(Drop)]
+#[derive(Clone, Copy)]
 pub enum Turn {
     Hit,
     Stop,
@@ -116,7 +116,7 @@ pub enum Turn {
 
 // What a record asks of the walker of a sequence: to go on after so many steps, to enter a loop of so many passes, to leave one, to finish,
 // to refuse.
-#[derive(Drop)]
+#[derive(Clone, Copy)]
 pub enum Act {
     Go(usize),
     Enter(usize),
@@ -126,14 +126,14 @@ pub enum Act {
 }
 
 // The walker stopped before a record, after so many steps; or a record is refused.
-#[derive(Drop)]
+#[derive(Clone, Copy)]
 pub enum Walked {
     Done(usize, usize),
     Bad(usize),
 }
 
 // steps: W.
-#[derive(Drop)]
+#[derive(Clone, Copy)]
 pub enum Verdict {
     Accepted { records: usize, steps: usize },
     Refused { number: usize, record: usize },
@@ -143,7 +143,7 @@ pub enum Verdict {
 
 // What a word instruction comes to: an error (0 for none); a value, and a second one if two is 1; and, if flags is 1, SM180, SM181
 // and SM182. Each number of one bit is 0 or 1.
-#[derive(Drop)]
+#[derive(Clone, Copy)]
 pub struct Outcome {
     pub error: usize,
     pub value: i64,
@@ -156,7 +156,7 @@ pub struct Outcome {
 }
 
 // What a scan gives to its timers: so many whole units of 100 ms to those that count in them, of 10 ms, and of 1 ms.
-#[derive(Drop)]
+#[derive(Clone, Copy)]
 pub struct Units {
     pub hundreds: usize,
     pub tens: usize,
@@ -166,7 +166,7 @@ pub struct Units {
 // What the running machine holds beside the tables. pc: the record due. flow: 0 absent, 1 off, 2 on. action: 1 if the last
 // instruction other than NOP was an action. blocks, branches: the stacks, the top in the lowest bit. depth: the loops open. ended: 1
 // after END. error, at: the first error and its record.
-#[derive(Drop)]
+#[derive(Clone, Copy)]
 pub struct Machine {
     pub pc: usize,
     pub flow: usize,
@@ -180,7 +180,7 @@ pub struct Machine {
 }
 
 // stop: the record stopped at. error, at: the first error and its record, 0 and 0 if none.
-#[derive(Drop)]
+#[derive(Clone, Copy)]
 pub struct Report {
     pub steps: usize,
     pub stop: usize,
@@ -188,7 +188,7 @@ pub struct Report {
     pub at: usize,
 }
 
-#[derive(Drop)]
+#[derive(Clone, Copy)]
 pub enum Scanned {
     Ended(Report),
     Watchdog(Report),
@@ -201,7 +201,7 @@ pub const DEFAULT_BUDGET: u32 = 200_000;
 // ---- map, mover, exchange
 
 // number 0: not refused.
-#[derive(Drop)]
+#[derive(Clone, Copy)]
 pub struct Mapped {
     pub number: usize,
     pub at: usize,
@@ -209,13 +209,13 @@ pub struct Mapped {
     pub written: [u8; 1000],
 }
 
-#[derive(Drop)]
+#[derive(Clone, Copy)]
 pub enum Moved {
     To { place: usize },
     Refused { number: usize, record: usize },
 }
 
-#[derive(Drop)]
+#[derive(Clone, Copy)]
 pub enum Exchanged {
     Done,
     Refused { number: usize, record: usize },

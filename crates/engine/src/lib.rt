@@ -23,7 +23,7 @@ fn sizes_fit(x: &[u8], y: &[u8], m: &[u8], sm: &[u8], t: &[u8], d: &[i16], tv: &
 
 // What the check finds of a file, once for any number of scans of it: whether it accepts the file; if not, the number that refuses it and the record
 // told; if so, where its records begin and how many there are.
-#[derive(Drop)]
+#[derive(Clone, Copy)]
 pub struct Ready {
     pub accepted: bool,
     pub number: usize,

@@ -18,7 +18,7 @@ pub fn knows(command: usize) -> bool
 }
 
 // The memory file: whether the call names one, and how many bytes it has.
-#[derive(Drop)]
+#[derive(Clone, Copy)]
 pub struct Memory {
     pub given: bool,
     pub size: usize,

@@ -4,7 +4,7 @@ use calls::{results, text, texts};
 use telling::{report, spans};
 
 // A refusal of a job: the number with its record, and the lines that it is told at.
-#[derive(Drop)]
+#[derive(Clone, Copy)]
 pub struct Refusal {
     pub number: usize,
     pub record: usize,

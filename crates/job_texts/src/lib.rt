@@ -8,7 +8,7 @@ use jobs::JobLine;
 use units::Number;
 
 // What a job has: whether no line is misspelt, the first that is (0 if none is), and how many lines stand ahead of it.
-#[derive(Drop)]
+#[derive(Clone, Copy)]
 pub struct Lines {
     pub good: bool,
     pub line: usize,

@@ -3,7 +3,7 @@
 
 // What comes of a job. It is refused: by a number with its record; 10 to 14 are also told at a line, which is `line` and `other`; and where two lines meet,
 // `line` is the later of them and `other` the earlier. Or it is done: so many moves.
-#[derive(Drop)]
+#[derive(Clone, Copy)]
 pub enum Jobbed {
     Refused {
         number: usize,
@@ -17,7 +17,7 @@ pub enum Jobbed {
 }
 
 // A line of a job's text: not spelt as it must be; or the start and the length of its block, where its place begins, and the place after its line feed.
-#[derive(Drop)]
+#[derive(Clone, Copy)]
 pub enum JobLine {
     Misspelt,
     Spelt {

@@ -16,7 +16,7 @@ ghost use Rattle.records.specs.Ranges.{Held};
 use ec20::{Control, Found, Judged, Turn};
 
 // What a search looks for: the NEXT that closes a loop, or the LBL of a label.
-#[derive(Drop)]
+#[derive(Clone, Copy)]
 pub enum Want {
     Close,
     Place(usize),

@@ -5,7 +5,7 @@ ghost use Rattle.units.specs.Text.{longer_of, told_by_longer};
 use units::Line;
 
 // Whose first line it is, 1 or 2 (0: nothing), and how many bytes it has.
-#[derive(Drop)]
+#[derive(Clone, Copy)]
 pub struct Part {
     pub text: usize,
     pub size: usize,

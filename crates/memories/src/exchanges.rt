@@ -11,7 +11,7 @@ use crate::tables;
 use ec20::Exchanged;
 
 // A block of D words, by its start and length, and the start of the place that it changes places with.
-#[derive(Drop)]
+#[derive(Clone, Copy)]
 pub struct Way {
     pub start: u32,
     pub length: u32,

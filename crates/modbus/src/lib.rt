@@ -2,7 +2,7 @@
 // each part of a frame's way. There is no code here.
 
 // What comes of a frame: the call is refused by 9 or 16; nothing is sent; or a reply of so many bytes is.
-#[derive(Drop)]
+#[derive(Clone, Copy)]
 pub enum Answered {
     Refused { number: usize, record: usize },
     Silent,

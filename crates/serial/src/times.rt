@@ -17,7 +17,7 @@ fn least(a: u64, b: u64) -> u64
 }
 
 // The milliseconds that passed, as many as a scan takes at most, and the moment up to which they are counted: what is left counts for the next scan.
-#[derive(Drop)]
+#[derive(Clone, Copy)]
 pub struct Passed {
     pub elapsed: u32,
     pub until: u64,

@@ -4,7 +4,7 @@ ghost use Rattle.std.specs.Prelude.{◌≡◌, false, length};
 // device: the line; stop: the file in which a byte asks to end. Moments in milliseconds: when it began, up to when its scans have counted the time, when
 // the last byte came, when it was last told how far it is. held: how many bytes came and are not answered yet; came: how many of them in this turn.
 // over: whether this turn was the last.
-#[derive(Drop)]
+#[derive(Clone, Copy)]
 pub struct State {
     pub device: i32,
     pub stop: i32,

@@ -7,7 +7,7 @@ use calls::numbers;
 
 // The own station; how many seconds it goes on, 0 for without end; the silence that ends a frame, in milliseconds; whether it is told each second how far
 // it is. good: station and seconds are numbers.
-#[derive(Drop)]
+#[derive(Clone, Copy)]
 pub struct Wanted {
     pub station: u32,
     pub seconds: u32,

@@ -5,7 +5,7 @@ ghost use Rattle.std.specs.Prelude.{true, ◌≡◌};
 use ec20::Scanned;
 
 // What a scan answered. kind: 0 refused, 1 ended, 2 watchdog; where it is refused, steps is the number and stop the record.
-#[derive(Drop)]
+#[derive(Clone, Copy)]
 pub struct Answer {
     pub kind: usize,
     pub steps: usize,
@@ -15,7 +15,7 @@ pub struct Answer {
 }
 
 // apart: the first byte of the memory file at which the memories differ after exchange; 16892 where none does.
-#[derive(Drop)]
+#[derive(Clone, Copy)]
 pub struct Turn {
     pub old: Answer,
     pub new: Answer,

@@ -17,7 +17,7 @@ fn room() -> [[u32; 2]; 2016]
 }
 
 // number: the refusal; 0 where the lines are told, at `to`.
-#[derive(Drop)]
+#[derive(Clone, Copy)]
 pub struct Shown {
     pub to: i32,
     pub number: usize,

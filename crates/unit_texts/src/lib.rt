@@ -7,7 +7,7 @@ use units::{Declaration, Line, Number, Table, UnitLine};
 
 // What a unit list has: whether no line is misspelt, the first that is (0 if none is), how many declarations stand ahead of it, and the first 64 of
 // them. Every other entry of the table is all zeros.
-#[derive(Drop)]
+#[derive(Clone, Copy)]
 pub struct Units {
     pub good: bool,
     pub line: usize,

@@ -3,7 +3,7 @@ use ec20::Verdict;
 use records::u32_at;
 
 // What came of a case: whether the verdict is the one wanted, and its number, 0 for accepted.
-#[derive(Drop)]
+#[derive(Clone, Copy)]
 pub struct Judged {
     pub agrees: bool,
     pub number: usize,

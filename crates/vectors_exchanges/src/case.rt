@@ -5,13 +5,13 @@ use cases::{drawing, octets, reading};
 use ec20::Exchanged;
 
 // What came of a case: whether the exchange gave what is wanted, and the number of that, 0 for exchanged.
-#[derive(Drop)]
+#[derive(Clone, Copy)]
 pub struct Judged {
     pub agrees: bool,
     pub number: usize,
 }
 
-#[derive(Drop)]
+#[derive(Clone, Copy)]
 struct Asked {
     rule: u8,
     seed: u32,
@@ -22,7 +22,7 @@ struct Asked {
 }
 
 // The refusal (0: none) and the checksum of the words after.
-#[derive(Drop)]
+#[derive(Clone, Copy)]
 struct Wanted {
     number: usize,
     sum: u64,

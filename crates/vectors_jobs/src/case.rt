@@ -6,14 +6,14 @@ use cases::{drawing, octets, reading};
 use jobs::Jobbed;
 
 // What came of a case: whether the job gave what is wanted, the number of that, 0 for done, and 17 if two lines meet, else 18.
-#[derive(Drop)]
+#[derive(Clone, Copy)]
 pub struct Judged {
     pub agrees: bool,
     pub number: usize,
     pub meeting: usize,
 }
 
-#[derive(Drop)]
+#[derive(Clone, Copy)]
 struct Asked {
     rule: u8,
     seed: u32,
@@ -22,7 +22,7 @@ struct Asked {
 }
 
 // The refusal (0: none), its record and its lines, the moves, and the checksum of the words after.
-#[derive(Drop)]
+#[derive(Clone, Copy)]
 struct Wanted {
     number: usize,
     record: usize,

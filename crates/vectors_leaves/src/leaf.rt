@@ -4,7 +4,7 @@ use ec20::Outcome;
 use records::u32_at;
 
 // What came of a case.
-#[derive(Drop)]
+#[derive(Clone, Copy)]
 pub enum Case {
     Agrees,
     Differs,

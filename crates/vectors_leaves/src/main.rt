@@ -10,7 +10,7 @@ use leaf::Case;
 use libc::STDOUT_FILENO;
 
 // How many cases the file says that there are.
-#[derive(Drop)]
+#[derive(Clone, Copy)]
 enum Count {
     Of(usize),
     Wrong,

@@ -4,7 +4,7 @@ ghost use Rattle.std.specs.Prelude.{length, ◌≡◌};
 use cases::reading;
 
 // What came of a case: whether the map is the one wanted, and the number of refusal that is wanted, 0 for accepted.
-#[derive(Drop)]
+#[derive(Clone, Copy)]
 pub struct Judged {
     pub agrees: bool,
     pub number: usize,

@@ -3,13 +3,13 @@ use cases::{octets, reading};
 use ec20::Moved;
 
 // What came of a case: whether the move gave what is wanted, and the number of that, 0 for moved.
-#[derive(Drop)]
+#[derive(Clone, Copy)]
 pub struct Judged {
     pub agrees: bool,
     pub number: usize,
 }
 
-#[derive(Drop)]
+#[derive(Clone, Copy)]
 struct Asked {
     start: u32,
     length: u32,
@@ -18,7 +18,7 @@ struct Asked {
 }
 
 // The numbers of an answer: refusal (0: none), its record, the place.
-#[derive(Drop)]
+#[derive(Clone, Copy)]
 struct Answer {
     number: usize,
     record: usize,

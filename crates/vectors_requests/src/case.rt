@@ -5,7 +5,7 @@ use cases::octets::least;
 use cases::{drawing, octets, reading};
 
 // Rule and seed of the tables, own station, and how much of M, D, the reply buffer and the frame is lent.
-#[derive(Drop)]
+#[derive(Clone, Copy)]
 struct Asked {
     rule: u8,
     seed: u32,
@@ -17,7 +17,7 @@ struct Asked {
 }
 
 // What came of a case: whether the call gave what is wanted, and the count of its answer.
-#[derive(Drop)]
+#[derive(Clone, Copy)]
 pub struct Judged {
     pub agrees: bool,
     pub sort: usize,

@@ -6,7 +6,7 @@ use cases::reading;
 use modbus::Answered;
 
 // The refusal (0: none), the kind (0 refused, 1 silent, 2 reply), the bytes of the reply, and the checksums of M and the buffer after.
-#[derive(Drop)]
+#[derive(Clone, Copy)]
 pub struct Wanted {
     pub number: usize,
     pub kind: usize,

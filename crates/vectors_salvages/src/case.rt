@@ -5,13 +5,13 @@ use torn::Salvaged;
 
 // What came of a case: whether the salvage gave what is wanted, and which answer that is: 0 done with the END that was found, 17 with one that was added, else
 // the number of the refusal.
-#[derive(Drop)]
+#[derive(Clone, Copy)]
 pub struct Judged {
     pub agrees: bool,
     pub answer: usize,
 }
 
-#[derive(Drop)]
+#[derive(Clone, Copy)]
 struct Asked {
     rule: u8,
     seed: u32,
@@ -19,7 +19,7 @@ struct Asked {
 }
 
 // The refusal (0: none) and its record, what is told, and the checksum of the output after.
-#[derive(Drop)]
+#[derive(Clone, Copy)]
 struct Wanted {
     number: usize,
     record: usize,

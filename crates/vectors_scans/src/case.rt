@@ -6,7 +6,7 @@ use cases::{octets, reading};
 use ec20::Scanned;
 
 // What came of a case: whether the scan gave what is wanted, what that was, and the budget.
-#[derive(Drop)]
+#[derive(Clone, Copy)]
 pub struct Judged {
     pub agrees: bool,
     pub want: Answer,

@@ -6,7 +6,7 @@ use ec20::{Report, Scanned};
 
 // The numbers of an answer: refusal (0: none) and its record; 0 refused, 1 ended, 2 watchdog; the steps, the record stopped at, the first
 // error and its record.
-#[derive(Drop)]
+#[derive(Clone, Copy)]
 pub struct Answer {
     pub number: usize,
     pub told: usize,

@@ -6,7 +6,7 @@ use cases::octets::least;
 
 // What a case asks: the table that is lent in a wrong size (0: none) and in which way, elapsed milliseconds, the budget, and whether the entry that
 // takes no budget is called.
-#[derive(Drop)]
+#[derive(Clone, Copy)]
 pub struct Asked {
     pub table: u8,
     pub way: u8,

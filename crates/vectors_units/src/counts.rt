@@ -7,7 +7,7 @@ use cases::told::line;
 use units::Clashed;
 
 // Whether the case agrees, the count of its answer, and that of its list.
-#[derive(Drop)]
+#[derive(Clone, Copy)]
 pub struct Judged {
     pub agrees: bool,
     pub answer: usize,

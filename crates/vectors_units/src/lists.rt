@@ -6,7 +6,7 @@ use cases::reading;
 use units::{Clashed, Table};
 
 // The refusal (0: none), the record told, and the number of clashes.
-#[derive(Drop)]
+#[derive(Clone, Copy)]
 struct Wanted {
     number: usize,
     record: usize,
