@@ -1,4 +1,6 @@
 // The word instructions: with flow the sources are read, the outcome is worked out and stored; without it nothing is done.
+#![tactic(auto)]
+
 ghost use Rattle.std.specs.Prelude.{ℕ, ◌+◌, ◌<◌, ◌^◌, eqb, List, ◌≡◌};
 ghost use Rattle.ec20.specs.Basics.{pick};
 ghost use Rattle.ec20.specs.File.{operand_at};

@@ -1,6 +1,8 @@
 // The word instructions as functions of values, at 16 and 32 bits at once: h is one more than the largest number of the width. Each
 // result is what ec20's specs/Words.antt defines. What is stored of an exact result are its low bits (`ints::wrapped`): callers write h as a
 // literal, so that no division is left.
+#![tactic(auto)]
+
 ghost use Rattle.std.specs.Prelude.{◌≡◌, ◌+◌, ◌<◌, ◌≤◌, ◌^◌, pos, ◌+ℤ◌, ◌-ℤ◌, ◌*ℤ◌};
 ghost use Rattle.std.specs.Int.Signed.{mag};
 ghost use Rattle.ec20.specs.Basics.{one_if};

@@ -1,5 +1,7 @@
 // Bits packed eight to a byte, the lowest number in the lowest bit, and groups of them, by shifts and masks. A bit outside the table reads
 // as 0, and a store there changes nothing, so that no function here asks its bits to be in the table.
+#![tactic(auto)]
+
 ghost use Rattle.std.specs.Prelude.{length, get_or, ◌≡◌, ℕ, ◌+◌, ◌*◌, ◌<◌, ◌≤◌, ◌^◌};
 ghost use Rattle.std.specs.Int.Signed.{mag};
 ghost use Rattle.ec20.specs.Numbers.{bits_in, half};

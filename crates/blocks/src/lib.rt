@@ -1,4 +1,6 @@
 // Block, pool and place of a move: refusals 10, 11, 12 and the exchange's 14, and the tests of numbers in a row that they and the mover share.
+#![tactic(auto)]
+
 ghost use Rattle.std.specs.Prelude.{◌<◌, ◌^◌, ◌≡◌};
 ghost use Rattle.ec20.specs.Basics.{then as thenOf};
 ghost use Rattle.ec20.specs.Devices.{ec20};

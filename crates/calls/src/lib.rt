@@ -1,6 +1,8 @@
 // A call: its words, the numbers and files that they name, and what came of it. A file is read whole, or replaced. What a call's words, numbers and
 // command are, and how it counts, is promised by the definitions of specs/; of a file, how much of a buffer it fills. What the system does with a file or
 // a descriptor no contract can say: those functions are safe and end.
+#![tactic(auto)]
+
 pub mod arguments;
 pub mod asked;
 mod errors;

@@ -1,4 +1,6 @@
 // The check: every file gets an answer. 1 first; then the first record that breaks 2, 3 or 4; then 5, 6, 7 and 8, each over the whole program.
+#![tactic(auto)]
+
 ghost use Rattle.std.specs.Prelude.{◌≤◌, length, ◌≡◌};
 ghost use Rattle.checker.specs.Stages.{stage, from_jumps, from_loops, from_rungs, from_records};
 ghost use Rattle.ec20.specs.Check.{check_of};

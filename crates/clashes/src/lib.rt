@@ -1,5 +1,7 @@
 // Which of two declarations clash, and the report of a list. A list is looked at by its pairs once (rows), and the report is made from what was found (told).
 // Over a list that is lent as a slice of declarations the rows are made in the crate unit_lists; here over one by value.
+#![tactic(auto)]
+
 ghost use Rattle.std.specs.Prelude.{ℕ, ◌+◌, ◌-◌, ◌<◌, ◌≤◌, ◌^◌, min, length, get_or, List, ◌++◌, ◌≡◌};
 ghost use Rattle.clashes.specs.Rows.{right_block, grown_by, row_of, no_rows, with_row, rows_of, noted, pairs_in, pairs_from, told_of};
 ghost use Rattle.units.specs.Clash.{none, tabled, same_to, clash_of};

@@ -1,5 +1,7 @@
 // The system's clock that only goes forward, and a pause. `now` and `wait` lend a struct to the C library, which the borrow checker does not cover: each is
 // proved by a walk of its MIR, by hand. All that computes gets numbers. What the system answers may be anything: a number that is out of range counts as 0.
+#![tactic(auto)]
+
 ghost use Rattle.std.specs.Prelude.{◌≤◌};
 
 use libc::types::timespec;

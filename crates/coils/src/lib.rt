@@ -1,4 +1,6 @@
 // Coils: M bits read into a reply, and written from a request, by whole bytes: eight bits that reach over the edge of a byte are a shift of two.
+#![tactic(auto)]
+
 ghost use Rattle.std.specs.Prelude.{ℕ, ◌+◌, ◌*◌, ◌/◌, ◌%◌, ◌^◌, ◌<◌, ◌≤◌, min, length, List, ◌≡◌};
 ghost use Rattle.coils.specs.Moved.{bytes_moved};
 ghost use Rattle.ec20.specs.Bits.{packed, spread};

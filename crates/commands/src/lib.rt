@@ -1,6 +1,8 @@
 // The commands that scan: scan, trial and demo (the slave stands in the crate serving). A call is lent as bytes: its words, each ended by a zero byte, of
 // which the first names the command. What it answers goes to `out`; what a refusal means, and what could not be tried, to `err`. What needs no scan
 // stands in the crates beginnings and file_commands.
+#![tactic(auto)]
+
 mod scan;
 mod trial;
 

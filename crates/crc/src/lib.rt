@@ -1,4 +1,6 @@
 // The CRC of a Modbus frame: eight bytes at a time, and what is left a byte at a time.
+#![tactic(auto)]
+
 mod eights;
 mod single;
 

@@ -1,4 +1,6 @@
 // A record as an instruction, and as what loops and jumps see of it.
+#![tactic(auto)]
+
 ghost use Rattle.std.specs.Prelude.{◌+◌, ◌*◌, ◌<◌, ◌≤◌, ◌^◌, length, ◌≡◌};
 ghost use Rattle.ec20.specs.Code.{instr_by, instr_of, code_of};
 ghost use Rattle.ec20.specs.Control.{control_of};

@@ -1,5 +1,6 @@
 // The types of the EC20 machine, and the one figure that several crates go by. What they mean, and what is done with them, is defined in
 // specs/, one file for each section of the scope. There is no code here.
+#![tactic(auto)]
 
 // ---- the instruction table
 

@@ -1,4 +1,6 @@
 // A scan: the file is checked and made ready, then its program runs over the lent memory. Who scans one file often makes it ready once.
+#![tactic(auto)]
+
 ghost use Rattle.ec20.specs.Devices.{ec20};
 ghost use Rattle.ec20.specs.Memory.{memory, sized};
 ghost use Rattle.ec20.specs.Plant.{plant};

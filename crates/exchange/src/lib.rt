@@ -1,4 +1,6 @@
 // The exchange of the D table: the words of a block and of a place of the same length change places.
+#![tactic(auto)]
+
 ghost use Rattle.std.specs.Prelude.{◌<◌, ◌^◌, length, set, ◌≡◌};
 ghost use Rattle.blocks.specs.Apart.{Apart};
 ghost use Rattle.ec20.specs.Devices.{ec20};

@@ -1,5 +1,7 @@
 // An operand's words in D: whether it names any, the first of them, and how many there are at its place. WORK, map, block, place and move ask
 // here.
+#![tactic(auto)]
+
 ghost use Rattle.std.specs.Prelude.{◌<◌, ◌≤◌, ◌≡◌};
 ghost use Rattle.ec20.specs.Operands.{in_d, start_of, extent_of};
 

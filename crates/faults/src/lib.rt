@@ -1,4 +1,6 @@
 // What the instruction table allows of a record: refusals 2, 3 and 4, and the first record that is refused by one of them.
+#![tactic(auto)]
+
 ghost use Rattle.std.specs.Prelude.{◌+◌, ◌*◌, ◌-◌, ◌<◌, ◌≤◌, ◌^◌, pos, neg_ℤ, length, ◌≡◌};
 ghost use Rattle.ec20.specs.Devices.{ec20, limit_of, meets_work};
 ghost use Rattle.ec20.specs.File.{records_from, record_from};

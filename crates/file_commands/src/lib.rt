@@ -1,5 +1,7 @@
 // The commands that make no scan: check, map, move, exchange, answer and salvage. Each is handed a call and two descriptors: `out` for the answer, `err` for what a
 // refusal means and what could not be tried. Nothing is promised beyond safety.
+#![tactic(auto)]
+
 mod answers;
 mod exchanges;
 mod judge;

@@ -1,5 +1,7 @@
 // Power flow: what an instruction does to the running machine's state, memory apart. Flow is 0 absent, 1 off, 2 on; a stack of eight is a
 // byte with its top in the lowest bit.
+#![tactic(auto)]
+
 ghost use Rattle.std.specs.Prelude.{◌+◌, ◌<◌, ◌^◌, eqb, not, ◌||◌, ◌≡◌};
 ghost use Rattle.ec20.specs.Basics.{pick, one_if};
 ghost use Rattle.ec20.specs.Flow.{is_on, flow_of, push, top, onward, flowed, acted, failed, gone, stopped, starts_now, loaded, contact_of, compare_of, join_of, branch_of};

@@ -1,4 +1,6 @@
 // A request by its numbers: n the function, a the first address, q the quantity (of 5 and 6: the value), c the byte count, l the frame's length.
+#![tactic(auto)]
+
 ghost use Rattle.std.specs.Prelude.{◌<◌, ◌≤◌, length, ◌≡◌};
 ghost use Rattle.ec20.specs.File.{byte_at};
 ghost use Rattle.modbus.specs.Exceptions.{quantity_fits, is_of_coils, is_single, meant, range_fits, exception_for, exception_of};

@@ -1,5 +1,7 @@
 // Ninhalto for a host program in C or Rust: the static library that `rt staticlib host` writes; include/ninhalto.h says it to C. A host lends
 // the bytes of a file or a text, a list, the tables and the numbers to write, none of which overlap. Each function asks nothing more.
+#![tactic(auto)]
+
 mod answers;
 mod check;
 mod clash_lists;

@@ -1,5 +1,7 @@
 // The memory as a file has it: 16,892 bytes. First the bits (X 32 bytes, Y 32, M 250, SM 32, T contacts 32), then 8,000 D words and 256 T
 // values of two bytes each, the low byte first, then the two leftovers: that of the 10 ms timers and that of the 100 ms timers.
+#![tactic(auto)]
+
 ghost use Rattle.std.specs.Prelude.{◌/◌, ◌<◌, length, pos, ◌≡◌};
 ghost use Rattle.image.specs.Image.{Filled, word_in, byte_of, part, bit_byte, image_byte, plant_of, image_of, Sizes, Word16};
 ghost use Rattle.std.specs.Int.Signed.{mag};

@@ -1,5 +1,7 @@
 // The instruction table: one row for each instruction number, with the role, the width and the extent of each operand. Checker, scan, map
 // and mover take these from here and from nowhere else.
+#![tactic(auto)]
+
 ghost use Rattle.std.specs.Prelude.{◌<◌, ◌≡◌};
 ghost use Rattle.ec20.specs.Table.{row_of};
 ghost use Rattle.instructions.specs.Cells.{cells};

@@ -1,4 +1,6 @@
 // Leaf operations on signed numbers: each states its result in ℤ, so that a caller's proof sees no bits.
+#![tactic(auto)]
+
 ghost use Rattle.std.specs.Prelude.{◌≡◌, ◌+◌, ◌<◌, ◌^◌, pos, neg_ℤ, ◌+ℤ◌, ◌-ℤ◌, ◌*ℤ◌, false};
 ghost use Rattle.ec20.specs.Numbers.{low, signed, wrap, is_zero, is_above, is_below, is_lowest};
 ghost use Rattle.std.specs.Int.Signed.{lt_z, quot_z, rem_z};

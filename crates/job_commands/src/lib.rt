@@ -1,6 +1,8 @@
 // job FILE JOB [MEMORY]: the blocks that a job's lines name, each moved to its place in the program file, and their words exchanged in the memory file. It
 // is handed a call and two descriptors: `out` for the answer, `err` for what a refusal means and what could not be tried. What a job does is promised of the
 // crates job_texts, job_moves and memory_jobs; here nothing is beyond safety.
+#![tactic(auto)]
+
 mod told;
 
 ghost use Rattle.std.specs.Prelude.{◌≡◌, ◌==◌};

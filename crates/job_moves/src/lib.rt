@@ -1,5 +1,7 @@
 // A job over a lent file, a lent D table and lent lines: several blocks, each moved to the place that its line names, and the words exchanged; or it is
 // refused, and file and table are left as they are.
+#![tactic(auto)]
+
 ghost use Rattle.std.specs.Prelude.{◌+◌, ◌<◌, length, true, ◌≡◌};
 ghost use Rattle.ec20.specs.Basics.{pick};
 ghost use Rattle.ec20.specs.Devices.{ec20};

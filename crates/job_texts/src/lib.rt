@@ -1,4 +1,6 @@
 // A job as text, read whole: a line for each task. What is read is defined in the crate jobs, specs/Text.antt.
+#![tactic(auto)]
+
 ghost use Rattle.std.specs.Prelude.{◌<◌, ◌≤◌, length, set, [], ◌∷◌, ◌≡◌};
 ghost use Rattle.job_texts.specs.Held.{part_at, PartIn, JobLineIn, held_of};
 ghost use Rattle.jobs.specs.Text.{job_line_at, job_in};

@@ -1,5 +1,6 @@
 // Jobs: several blocks, each moved to a place that is named for it. What a job is, how it is spelt and what comes of it is defined in specs/. There is no
 // code here.
+#![tactic(auto)]
 
 // What comes of a job. It is refused: by a number with its record; 10 to 14 are also told at a line, which is `line` and `other`; and where two lines meet,
 // `line` is the later of them and `other` the earlier. Or it is done: so many moves.

@@ -1,4 +1,6 @@
 // Loops and jumps: FOR, NEXT and CJ, and where FOR and CJ go, looked up once for a run.
+#![tactic(auto)]
+
 ghost use Rattle.std.specs.Prelude.{ℕ, ◌+◌, ◌<◌, ◌≤◌, ◌^◌, ◌-◌, get_or, length, ◌≡◌};
 ghost use Rattle.ec20.specs.Code.{Program, program_in};
 ghost use Rattle.ec20.specs.Control.{controls_of, next_of_for, first_label, or_past};

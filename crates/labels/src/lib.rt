@@ -1,4 +1,6 @@
 // Labels and jumps, refusal 7; and the two searches, for the NEXT of a FOR and for a label.
+#![tactic(auto)]
+
 ghost use Rattle.std.specs.Prelude.{ℕ, ◌+◌, ◌-◌, ◌<◌, ◌≤◌, ◌^◌, eqb, length, false, ◌≡◌};
 ghost use Rattle.ec20.specs.Basics.{first_at, refused_at};
 ghost use Rattle.ec20.specs.Code.{program_in};

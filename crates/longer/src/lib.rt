@@ -1,4 +1,6 @@
 // For the operator: of two lent declaration texts, the first line of the one that holds the longer block.
+#![tactic(auto)]
+
 ghost use Rattle.std.specs.Prelude.{◌≤◌, length, ◌≡◌};
 ghost use Rattle.units.specs.Text.{longer_of, told_by_longer};
 

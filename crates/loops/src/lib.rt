@@ -1,5 +1,7 @@
 // Refusal 6 and W: "A sequence may hold loops and a loop holds a sequence, at most 8 deep." Two walkers call each other; remaining records
 // fall at each call.
+#![tactic(auto)]
+
 ghost use Rattle.std.specs.Prelude.{◌+◌, ◌*◌, ◌<◌, ◌≤◌, min, length, ◌≡◌};
 ghost use Rattle.ec20.specs.Code.{program_in};
 ghost use Rattle.ec20.specs.Control.{controls_of};

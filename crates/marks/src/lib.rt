@@ -1,5 +1,7 @@
 // A map of D words, one bit for each, packed eight to a byte, the lowest number in the lowest bit. A word that the map does not have is never
 // marked, and a mark there changes nothing, so that no function here asks its words to be in the map.
+#![tactic(auto)]
+
 ghost use Rattle.std.specs.Prelude.{◌+◌, ◌<◌, ◌^◌, ◌≡◌};
 ghost use Rattle.marks.specs.Marked.{marked, marking, marking_held};
 

@@ -1,5 +1,7 @@
 // A job over a program file and the bytes of a memory file, or over a program file alone. What it makes of the memory stands in specs/Images.antt. It is
 // promised of the tables and the leftovers that the bytes mean, and of the bytes.
+#![tactic(auto)]
+
 ghost use Rattle.std.specs.Prelude.{ℕ, ◌≡◌};
 ghost use Rattle.image.specs.Image.{plant_of, image_of};
 ghost use Rattle.jobs.specs.Job.{job_of};

@@ -1,6 +1,8 @@
 // A scan over the bytes of a memory file, of any file, or of one that was made ready for many. What it makes of memory and leftovers stands in
 // specs/Scans.antt. It is promised of the tables and the leftovers that the bytes mean, and of the bytes. pairs: a scan of an old program and one of the
 // moved one, side by side.
+#![tactic(auto)]
+
 pub mod pairs;
 
 ghost use Rattle.std.specs.Prelude.{ℕ, ◌≤◌, eqb, ◌≡◌};

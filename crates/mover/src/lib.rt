@@ -1,4 +1,6 @@
 // The move of a block of D words: the lowest place in the pool, and the program renamed in the file where it is lent.
+#![tactic(auto)]
+
 ghost use Rattle.std.specs.Prelude.{◌<◌, ◌^◌, length, true, ◌≡◌};
 ghost use Rattle.ec20.specs.Devices.{ec20};
 ghost use Rattle.ec20.specs.File.{framed, records_from, records_of};

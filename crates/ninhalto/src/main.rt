@@ -1,5 +1,7 @@
 // The command ninhalto: its arguments are the words of a call. The answer goes to standard output, what is told of it in words to standard error,
 // and what came of the call to descriptor 3, as a line: the status, with `replaced` after it where a file was.
+#![tactic(auto)]
+
 use calls::results::Outcome;
 use calls::{arguments, asked, results, texts};
 

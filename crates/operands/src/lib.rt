@@ -3,6 +3,8 @@
 // A D word or pair behind which the table goes on is read and stored where it is asked for, and a constant is read there. What is rare (groups,
 // T values, none, and D at the table's end) stands in `other` and `store_other`. A group is stored by a call (`bits::scatter`), and what is rare is
 // read by one wherever it would make the step too long: docs/BENCHMARKS.md, 'Where the step stands', has what the compiler inlines.
+#![tactic(auto)]
+
 ghost use Rattle.std.specs.Prelude.{◌≡◌, false, List, ℕ, ◌+◌, ◌/◌, ◌<◌, ◌≤◌, ◌^◌, eqb, ℤ};
 ghost use Rattle.std.specs.Int.Signed.{mag};
 ghost use Rattle.ec20.specs.Basics.{pick, one_if};

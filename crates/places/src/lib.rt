@@ -1,4 +1,6 @@
 // The search of the lowest right place for a block, in one walk over the records and one over the words of the pool.
+#![tactic(auto)]
+
 ghost use Rattle.std.specs.Prelude.{◌+◌, ◌<◌, ◌≤◌, ◌^◌, length, ◌≡◌};
 ghost use Rattle.ec20.specs.Basics.{pick};
 ghost use Rattle.ec20.specs.Devices.{ec20};

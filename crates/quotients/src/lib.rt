@@ -1,5 +1,7 @@
 // DIV and DDIV, 35 and 52, with flow: "quotient, then remainder". One law over the width proves both (proofs/Divisions.antt). Each width has a
 // function of its own, with one caller, so that it is inlined: for a call of one function for both, every slice was written to the stack at each step.
+#![tactic(auto)]
+
 ghost use Rattle.std.specs.Prelude.{ℕ, ◌+◌, ◌<◌, List, ◌≡◌};
 ghost use Rattle.ec20.specs.File.{operand_at};
 ghost use Rattle.ec20.specs.Memory.{memory, load_of};

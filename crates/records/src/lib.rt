@@ -1,4 +1,6 @@
 // The program file: numbers, operands and records read from the lent bytes, the frame (refusal 1), and a trailer to be written.
+#![tactic(auto)]
+
 ghost use Rattle.std.specs.Prelude.{◌+◌, ◌*◌, ◌-◌, ◌<◌, ◌≤◌, ◌^◌, eqb, leb, length, ◌&&◌, ◌≡◌};
 ghost use Rattle.ec20.specs.File.{u16_at, u32_at, frame_of, operand_at, record_from};
 ghost use Rattle.ec20.specs.Written.{trailer_of};

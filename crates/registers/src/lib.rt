@@ -1,4 +1,6 @@
 // Registers: D words read into a reply, and written from a request, the high byte of each first.
+#![tactic(auto)]
+
 ghost use Rattle.std.specs.Prelude.{◌+◌, ◌*◌, ◌<◌, ◌≤◌, length, ◌≡◌};
 ghost use Rattle.ec20.specs.Buffer.{over};
 ghost use Rattle.modbus.specs.Replies.{register_bytes};

@@ -1,4 +1,6 @@
 // The answer to a Modbus frame, over M, D and a reply buffer.
+#![tactic(auto)]
+
 ghost use Rattle.std.specs.Prelude.{◌≤◌, length, true, ◌≡◌};
 ghost use Rattle.modbus.specs.Answer.{judge_answer, heard, answer_of};
 ghost use Rattle.modbus.specs.Frame.{function_of, byte_count_of, length_fits, is_broadcast};

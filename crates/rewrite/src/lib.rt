@@ -1,4 +1,6 @@
 // The moved file: each D number in the block is raised or lowered by the distance, in the bytes where the file is lent.
+#![tactic(auto)]
+
 ghost use Rattle.std.specs.Prelude.{◌+◌, ◌<◌, ◌≤◌, ◌^◌, length, ◌≡◌};
 ghost use Rattle.ec20.specs.Basics.{list};
 ghost use Rattle.ec20.specs.File.{operand_at};

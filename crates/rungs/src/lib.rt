@@ -1,4 +1,6 @@
 // The rung rule, refusal 5: judged in record order, jumps ignored.
+#![tactic(auto)]
+
 ghost use Rattle.std.specs.Prelude.{◌+◌, ◌-◌, ◌≤◌, length, false, ◌&&◌, ltb, ◌≡◌};
 ghost use Rattle.ec20.specs.Code.{program_in};
 ghost use Rattle.ec20.specs.File.{records_from};

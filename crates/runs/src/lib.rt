@@ -1,4 +1,6 @@
 // A run: at most so many steps over the lent memory, from record 0 on.
+#![tactic(auto)]
+
 ghost use Rattle.ec20.specs.Code.{code_of, program_in};
 ghost use Rattle.ec20.specs.Control.{control_of};
 ghost use Rattle.ec20.specs.File.{records_from};

@@ -1,5 +1,7 @@
 // Salvage of a torn file: the records that are kept, with END added if there is none, and a proper trailer, in a lent output. A record is judged by the
 // checker's own test and the instruction table.
+#![tactic(auto)]
+
 ghost use Rattle.std.specs.Prelude.{◌+◌, ◌*◌, ◌/◌, ◌≤◌, ◌<◌, min, length, take, ◌≡◌};
 ghost use Rattle.ec20.specs.Buffer.{over, sent};
 ghost use Rattle.ec20.specs.Devices.{ec20};

@@ -1,6 +1,8 @@
 // slave FILE MEMORY DEVICE STATION SECONDS SILENCE STOP TOLD: scans a program over a memory again and again, and answers the Modbus requests that come
 // over a serial line in between. Then the memory file is replaced by the memory as it is. Nothing is promised beyond safety: what a scan does is
 // proved of the crate engine, what a request does of the crate requests.
+#![tactic(auto)]
+
 mod state;
 mod turn;
 mod wanted;

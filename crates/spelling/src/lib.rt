@@ -1,4 +1,6 @@
 // Numbers and declarations as they are spelt in a text. What is read is defined in the crate units, specs/Spelling.antt and specs/Text.antt.
+#![tactic(auto)]
+
 ghost use Rattle.std.specs.Prelude.{◌<◌, length, ◌≡◌};
 ghost use Rattle.spelling.specs.Bounds.{NumberIn, LineIn};
 ghost use Rattle.units.specs.Spelling.{byte_in, digit_of, number_at};

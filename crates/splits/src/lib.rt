@@ -1,4 +1,6 @@
 // Refusal 13: the first record with an operand whose extent is partly in the block.
+#![tactic(auto)]
+
 ghost use Rattle.std.specs.Prelude.{◌<◌, ◌^◌, length, ◌≡◌};
 ghost use Rattle.ec20.specs.File.{records_from};
 ghost use Rattle.ec20.specs.Move.{block, split_fault};

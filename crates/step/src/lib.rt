@@ -1,4 +1,6 @@
 // One step: the instructions over memory and state.
+#![tactic(auto)]
+
 ghost use Rattle.std.specs.Prelude.{ℕ, ◌+◌, ◌<◌, ◌≤◌, ◌^◌, ℤ, List, ◌≡◌};
 ghost use Rattle.ec20.specs.Flow.{is_on, acted, compare_of, coil_of};
 ghost use Rattle.ec20.specs.Memory.{memory, load_of};

@@ -1,4 +1,5 @@
 // Torn files: of a program file whose trailer is torn off or scrambled, what is kept and what is written. It is defined in specs/. There is no code here.
+#![tactic(auto)]
 
 // Of the whole records of a torn file: how many are kept, and how many END records are added to them, 0 or 1.
 #[derive(Clone, Copy)]

@@ -1,5 +1,7 @@
 // The commands over declarations of blocks: clashes and longer. Each is handed a call and two descriptors: `out` for the answer, `err` for what a refusal
 // means and what could not be tried. Neither changes a file.
+#![tactic(auto)]
+
 pub mod lists;
 mod parts;
 mod shown;

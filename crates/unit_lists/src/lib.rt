@@ -1,4 +1,6 @@
 // The report of a list of declarations that is lent as a slice. Entries are fetched here, and judged by value in the crate clashes.
+#![tactic(auto)]
+
 ghost use Rattle.std.specs.Prelude.{◌+◌, ◌-◌, ◌<◌, ◌≤◌, length, get_or, ◌≡◌};
 ghost use Rattle.clashes.specs.Rows.{row_of, rows_of};
 ghost use Rattle.units.specs.Clash.{none, listed, clash_of};

@@ -1,4 +1,6 @@
 // Which declared block a program reaches over: the test of refusal 13, for a declaration.
+#![tactic(auto)]
+
 ghost use Rattle.units.specs.Splits.{split_in};
 ghost use Rattle.std.specs.Prelude.{◌≡◌};
 

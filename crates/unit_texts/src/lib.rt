@@ -1,4 +1,6 @@
 // A unit list as text, read whole: a line for each declaration. What is read is defined in the crate units, specs/Listed.antt.
+#![tactic(auto)]
+
 ghost use Rattle.std.specs.Prelude.{◌+◌, ◌<◌, ◌≤◌, length, take, drop, [], ◌≡◌};
 ghost use Rattle.unit_texts.specs.Held.{table_of, put_of, UnitIn, held_of};
 ghost use Rattle.units.specs.Listed.{declaration, unit_at, units_of};

@@ -1,5 +1,6 @@
 // Declarations of blocks by the units of a plant. What a clash is, what a report holds and how declarations are spelt is defined in specs/, one file for
 // each part. There is no code here.
+#![tactic(auto)]
 
 // A unit's declaration of a block of D words, laid out as in C: 20 bytes.
 #[repr(C)]

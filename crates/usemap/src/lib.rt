@@ -1,4 +1,6 @@
 // The use map: which of the 8,000 D words an accepted program reads, and which it writes, two maps of 1,000 bytes by value.
+#![tactic(auto)]
+
 ghost use Rattle.ec20.specs.Devices.{ec20};
 ghost use Rattle.ec20.specs.File.{framed, records_from, records_of};
 ghost use Rattle.ec20.specs.Roles.{is_read, is_written};

@@ -1,5 +1,7 @@
 // Runs the checker on the files of checks.bin and compares its verdicts with those that stand there, which another implementation gave.
 // The format is in reference/FORMAT.md, "Checks".
+#![tactic(auto)]
+
 mod case;
 
 use cases::{reading, told};

@@ -2,6 +2,8 @@
 // names the file of which `it` is a copy before the call, the second the file that `it` is like after it, or like with two bytes more: the leftovers of a
 // slave, whose time is the clock's; the others are the call. The first is - where the call changes nothing, and closed where its answer is lost. It is both
 // where two files may change, `it` and `that`: then four words name what `it` is before and after the call, and what `that` is.
+#![tactic(auto)]
+
 mod lines;
 mod room;
 

@@ -1,5 +1,7 @@
 // Runs the exchange on the cases of exchanges.bin and compares its answers, and the words that it leaves, with those that stand there, which
 // another implementation gave. The format is in reference/FORMAT.md, "Exchanges".
+#![tactic(auto)]
+
 mod case;
 
 use cases::{reading, told};

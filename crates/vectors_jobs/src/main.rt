@@ -1,5 +1,7 @@
 // Runs the job on the cases of jobs.bin and compares its answers, and the files and D tables that it leaves, with those that stand there, which another
 // implementation gave. The format is in reference/FORMAT.md, "Jobs".
+#![tactic(auto)]
+
 mod case;
 
 use cases::{reading, told};

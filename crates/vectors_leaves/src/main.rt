@@ -1,5 +1,7 @@
 // Runs the proved leaves on the cases of leaves.bin and compares what they give with the answers that stand there, which another
 // implementation gave. The format is in reference/FORMAT.md, "Leaves".
+#![tactic(auto)]
+
 mod group;
 mod leaf;
 mod number;

@@ -1,5 +1,7 @@
 // Makes the use maps of the files of maps.bin and compares them with those that stand there, which another implementation gave. The format is
 // in reference/FORMAT.md, "Maps".
+#![tactic(auto)]
+
 mod case;
 
 use cases::{reading, told};

@@ -1,5 +1,7 @@
 // Runs the move on the cases of moves.bin and compares its answers, and the files that it leaves, with those that stand there, which another
 // implementation gave. The format is in reference/FORMAT.md, "Moves".
+#![tactic(auto)]
+
 mod case;
 
 use cases::{reading, told};

@@ -1,5 +1,7 @@
 // Runs the Modbus slave on the cases of requests.bin and compares its answers, the tables and the whole reply buffer that it leaves with what
 // stands there, which another implementation gave. The format is in reference/FORMAT.md, "Requests".
+#![tactic(auto)]
+
 mod before;
 mod case;
 mod counts;

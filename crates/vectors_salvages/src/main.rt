@@ -1,5 +1,7 @@
 // Runs the salvage on the cases of salvages.bin and compares its answers, and the outputs that it leaves, with those that stand there, which another
 // implementation gave. The format is in reference/FORMAT.md, "Salvages".
+#![tactic(auto)]
+
 mod case;
 
 use cases::{reading, told};

@@ -1,5 +1,7 @@
 // Runs the scan on the cases of scans.bin and compares its answers, and the memory that it leaves, with those that stand there, which
 // another implementation gave. The format is in reference/FORMAT.md, "Scans".
+#![tactic(auto)]
+
 mod before;
 mod case;
 mod counts;

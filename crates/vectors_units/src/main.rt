@@ -1,5 +1,7 @@
 // Runs the functions on declarations of units on the cases of lists.bin, texts.bin and unitlists.bin and compares their answers, and the whole report
 // of a list, with what stands there, which another implementation gave. The format is in reference/FORMAT.md, "Lists", "Texts" and "Unit lists".
+#![tactic(auto)]
+
 mod counts;
 mod declarations;
 mod lists;

@@ -1,5 +1,7 @@
 // D words and pairs of them, over a lent table. What lies outside the table reads as 0, and a store there changes nothing, so that no
 // function here asks its index to be in the table, but for the two at the end, whose caller has tested it.
+#![tactic(auto)]
+
 ghost use Rattle.std.specs.Prelude.{◌≡◌, ◌+◌, ◌<◌, ◌^◌, pos, ◌+ℤ◌, length, set};
 ghost use Rattle.std.specs.Int.Signed.{mag};
 ghost use Rattle.ec20.specs.Numbers.{half};

@@ -1,4 +1,6 @@
 // The word instructions of 16 bits, 32 to 40, with flow. Each arm stores what its outcome has, so that the compiler makes no struct of the outcome.
+#![tactic(auto)]
+
 ghost use Rattle.std.specs.Prelude.{ℕ, ◌+◌, List, ◌≡◌};
 ghost use Rattle.ec20.specs.File.{operand_at};
 ghost use Rattle.ec20.specs.Memory.{memory};

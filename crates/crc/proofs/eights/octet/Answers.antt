@@ -1,0 +1,6 @@
+use borrow.Author.Rules.{rules}
+use Rattle.crc.proofs.Takes.{takes-eight}
+use Rattle.crc.proofs.eights.octet.Goals as goal
+
+pub returns : goal.returns
+returns c = takes-eight _ _ _ _ c.quad.ensures.0 c.quad-2.ensures.0

@@ -1,0 +1,8 @@
+use mathlib.Core.Path.{refl}
+use borrow.Author.Rules.{rules}
+use Rattle.crc.specs.Eights.{plus}
+use Rattle.crc.proofs.eights.one.Goals as goal
+
+pub returns : goal.returns
+unfolding plus
+returns c = refl

@@ -1,0 +1,12 @@
+use borrow.Author.Rules.{rules}
+use native.Mathlib.Omega.{arith}
+use mathlib.Core.Path.{refl, ap}
+use Rattle.ec20.specs.declared.Row.{Row}
+use Rattle.instructions.proofs.Rows.{cell, row-past}
+use Rattle.instructions.proofs.form_in.Goals as goal
+
+pub returns-then-n-lt56 : goal.returns-then-n-lt56
+returns-then-n-lt56 c = cell _ _ 1 (λ (r : Row). r.form) (λ t. refl) c.requires
+
+pub returns : goal.returns
+returns c = ap (λ (r : Row). r.form) (row-past _ (omega arith))

@@ -1,0 +1,15 @@
+-- A row is made of the cells that are lent.
+use borrow.Author.Rules.{rules}
+use native.Mathlib.Omega.{arith}
+use mathlib.Core.Path.{◌≡◌, ap, ◌∙◌}
+use mathlib.Core.List.{List, []}
+use Prim.Native.Nat.{ℕ}
+use lib.ListN.{get_or}
+use Rattle.instructions.proofs.Rows.{made, row-by-cells, row-past}
+use Rattle.instructions.proofs.row_in.Goals as goal
+
+pub returns-then-n-lt56 : goal.returns-then-n-lt56
+returns-then-n-lt56 c = ap (λ (t : List (List ℕ)). made (get_or t c.args.n [])) c.requires ∙ row-by-cells _
+
+pub returns : goal.returns
+returns c = row-past _ (omega arith)

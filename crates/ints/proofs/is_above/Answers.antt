@@ -1,0 +1,13 @@
+-- Whether z is at least h. Assumes nothing.
+use mathlib.Core.Path.{ap, ap₂, ◌∙◌}
+use mathlib.Core.Bool.{not}
+use lib.Signed.{lt_z}
+use mir.Syntax.{w64}
+use mir.Facts.{to_z-of_z}
+use Rattle.ints.proofs.Parts.{said}
+use borrow.Author.Rules.{rules}
+use Rattle.ints.proofs.is_above.Goals as goal
+
+pub returns : goal.returns
+returns c =
+    ap not (c.less.ensures ∙ ap₂ lt_z (to_z-of_z c.ranges.z) (said w64 c.whole.type_inv c.whole.ensures))

@@ -1,0 +1,6 @@
+use mathlib.Core.Path.{refl}
+use borrow.Author.Rules.{rules}
+use Rattle.records.proofs.trailer_fits.Goals as goal
+
+pub returns : goal.returns
+returns c = rw c.less.ensures refl
