@@ -1,0 +1,67 @@
+-- The machine's quotient and remainder at 64 bits. The quotient is near the range, and its low bits are stored. Assumes nothing.
+use mathlib.Core.Path.{◌≡◌, sym, ap, ap₂, ◌∙◌}
+use mathlib.Core.Bool.{false}
+use lib.Signed.{quot_z, rem_z}
+use mir.Syntax.{w64}
+use mir.Val.{SFits, to_z, of_z}
+use mir.Facts.{to_z-of_z}
+use Rattle.ec20.specs.Numbers.{wrap, is_zero}
+use Rattle.ec20.specs.Words.{div_of}
+use Rattle.ints.proofs.Parts.{said}
+use Rattle.arith.proofs.Exact.{near_fits, quotient-near}
+use borrow.Author.Rules.{rules}
+use Rattle.arith.proofs.div.Goals as goal
+
+-- what the test says of the divisor
+tested-4 : (c : goal.After-wrapped-quotient) → c.is_zero.result ≡ is_zero c.args.b
+tested-4 c = c.is_zero.ensures ∙ ap is_zero (to_z-of_z c.ranges.b)
+
+-- what the test says of the divisor
+tested-3 : (c : goal.Else-is_zero) → c.is_zero.result ≡ is_zero c.args.b
+tested-3 c = c.is_zero.ensures ∙ ap is_zero (to_z-of_z c.ranges.b)
+
+-- what the test says of the divisor
+tested-2 : (c : goal.After-both) → c.is_zero.result ≡ is_zero c.args.b
+tested-2 c = c.is_zero.ensures ∙ ap is_zero (to_z-of_z c.ranges.b)
+
+-- what the test says of the divisor
+tested : (c : goal.After-refused) → c.is_zero.result ≡ is_zero c.args.b
+tested c = c.is_zero.ensures ∙ ap is_zero (to_z-of_z c.ranges.b)
+
+-- what a division asks
+asked-2 : (c : goal.After-wrapped-quotient) → (is_zero (to_z w64 (of_z w64 c.args.b)) ≡ false) × SFits w64 (quot_z (to_z w64 (of_z w64 c.args.a)) (to_z w64 (of_z w64 c.args.b)))
+asked-2 c =
+    let s = c.before.before in
+    rw (to_z-of_z s.ranges.a, to_z-of_z s.ranges.b)
+    (sym (tested-4 c) ∙ c.if-is_zero.false, near_fits s.args.h s.requires.0 (quotient-near s.args.h s.args.a s.args.b s.requires.1))
+
+-- what a division asks
+asked : (c : goal.Else-is_zero) → (is_zero (to_z w64 (of_z w64 c.args.b)) ≡ false) × SFits w64 (quot_z (to_z w64 (of_z w64 c.args.a)) (to_z w64 (of_z w64 c.args.b)))
+asked c =
+    let s = c.before.before in
+    rw (to_z-of_z s.ranges.a, to_z-of_z s.ranges.b)
+    (sym (tested-3 c) ∙ c.if-is_zero.false, near_fits s.args.h s.requires.0 (quotient-near s.args.h s.args.a s.args.b s.requires.1))
+
+exact : (c : goal.After-both) → to_z w64 (of_z w64 c.quot.result) ≡ quot_z c.args.a c.args.b
+exact c =
+    let s = c.before.before.before in
+    said w64 c.quot.type_inv (c.quot.ensures ∙ ap₂ quot_z (to_z-of_z s.ranges.a) (to_z-of_z s.ranges.b))
+
+pub returns-then-is_zero : goal.returns-then-is_zero
+unfolding div_of
+returns-then-is_zero c = c.refused.ensures ∙ rw (sym (tested c) ∙ c.if-is_zero.true)
+
+pub quot-requires : goal.quot-requires
+quot-requires c = asked c
+
+pub rest-remainder-requires : goal.rest-remainder-requires
+rest-remainder-requires c = asked-2 c
+
+pub returns : goal.returns
+unfolding div_of
+returns c =
+    let s = c.before.before.before.before.before.before in
+    let q = said w64 c.wrapped-quotient.type_inv (c.wrapped-quotient.ensures ∙ ap (wrap s.args.h) (exact c)) in
+    let r = said w64 c.rest-remainder.type_inv (c.rest-remainder.ensures ∙ ap₂ rem_z (to_z-of_z s.ranges.a) (to_z-of_z s.ranges.b)) in
+    let t = sym (tested-2 c) ∙ c.if-is_zero.false in
+    c.both.ensures ∙ rw (q, r, t)

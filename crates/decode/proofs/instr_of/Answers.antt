@@ -1,0 +1,8 @@
+use Prim.Native.Nat.{ℕ}
+use Rattle.ec20.specs.Code.{instr_by}
+use mathlib.Core.Path.{◌≡◌, ap, ◌∙◌}
+use borrow.Author.Rules.{rules}
+use Rattle.decode.proofs.instr_of.Goals as goal
+
+pub returns : goal.returns
+returns c = c.instr_by.ensures ∙ ap (λ (w : ℕ). instr_by w c.args.r) c.form_in-form.ensures

@@ -1,0 +1,8 @@
+use mathlib.Core.Path.{refl}
+use Rattle.ec20.specs.Operands.{constant_in}
+use borrow.Author.Rules.{rules}
+use Rattle.faults.proofs.constant_signed.Goals as goal
+
+pub returns : goal.returns
+unfolding constant_in
+returns c = rw c.fits_signed.ensures refl

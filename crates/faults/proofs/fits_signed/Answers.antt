@@ -1,0 +1,6 @@
+use Rattle.faults.proofs.Constants.{in-signed}
+use borrow.Author.Rules.{rules}
+use Rattle.faults.proofs.fits_signed.Goals as goal
+
+pub returns : goal.returns
+returns c = in-signed c.args.h c.args.v c.requires.0 c.requires.1 c.requires.2

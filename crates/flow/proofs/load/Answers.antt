@@ -1,0 +1,17 @@
+-- The block stack as it is where a rung starts, else with the flow pushed. Assumes nothing.
+use mathlib.Core.Logic.{⊎_elim}
+use mathlib.Core.Path.{◌≡◌, refl, ◌∙◌}
+use Rattle.ec20.specs.Basics.{pick}
+use Rattle.ec20.specs.Flow.{is_on, loaded, push, starts_now}
+use borrow.Author.Rules.{rules}
+use Rattle.flow.proofs.load.Goals as goal
+
+-- the block stack that was chosen
+blocks_is : (c : goal.Joined-s) → c.if-s.n ≡ pick (starts_now c.args.s) c.args.s.blocks (push c.args.s.blocks (is_on c.args.s))
+unfolding starts_now
+blocks_is c =
+    ⊎_elim (λ w. w.1 ∙ rw w.0.taken refl) (λ w. w.1 ∙ rw (w.0.left, c.pushed-more.ensures, c.is_on.ensures) refl) c.if-s.branch
+
+pub returns : goal.returns
+unfolding loaded
+returns c = rw (c.make_flow.ensures, c.flow_of.ensures, blocks_is c.before.before) refl

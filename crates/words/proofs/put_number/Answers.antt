@@ -1,0 +1,31 @@
+-- Into a word at 16 bits, else into a pair. Assumes nothing.
+use mathlib.Core.Path.{ap, ◌∙◌}
+use lib.IntN.{ℤ}
+use lib.ListN.{set}
+use mir.Facts.{to_z-of_z}
+use borrow.Author.Tests.{eq-eqb, ne_eqb}
+use Rattle.ec20.specs.Registers.{with_pair, with_number}
+use borrow.Author.Rules.{rules}
+use Rattle.words.proofs.put_number.Goals as goal
+
+pub put_word-requires : goal.put_word-requires
+put_word-requires c =
+    rw (to_z-of_z c.ranges.v) (rw c.in-16.is at c.requires.1)
+
+pub put_pair-requires : goal.put_pair-requires
+put_pair-requires c =
+    (c.requires.0, rw (to_z-of_z c.ranges.v) (rw (ne_eqb _ _ c.in_default.in_default-own.rest.1) at c.requires.1))
+
+pub returns-in-16 : goal.returns-in-16
+unfolding with_number
+returns-in-16 c =
+    let s = c.before.before.before.before in
+    rw c.in-16.is
+    (c.put_word.ensures ∙ ap (λ (y : ℤ). set s.args.d.now s.args.i y) (to_z-of_z s.ranges.v))
+
+pub returns-in_default : goal.returns-in_default
+unfolding with_number
+returns-in_default c =
+    let s = c.before.before.before.before in
+    rw (ne_eqb _ _ c.in_default.in_default-own.rest.1)
+    (c.put_pair.ensures ∙ ap (λ (y : ℤ). with_pair s.args.d.now s.args.i y) (to_z-of_z s.ranges.v))
