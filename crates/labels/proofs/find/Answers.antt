@@ -25,9 +25,8 @@ returns-in-Stop c =
 pub loop-k-preserved : goal.loop-k-preserved
 loop-k-preserved c =
     let l = c.loop-k in
-    let t = c.turn.ensures in
     let g = c.in-On.is in
-    (omega (arith, near _ _ _ t g), l.invariant.1 ∙ on _ _ l.k l.d _ (search rules) c.control_at.ensures t g)
+    (omega (arith, near _ _ _ c.turn.ensures g), l.invariant.1 ∙ on _ _ l.k l.d _ (search rules) c.control_at.ensures c.turn.ensures g)
 
 pub returns : goal.returns
 returns c =

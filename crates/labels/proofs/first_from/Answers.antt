@@ -13,8 +13,7 @@ pub loop-k-init : goal.loop-k-init
 loop-k-init c = refl
 
 pub label_fault-requires : goal.label_fault-requires
-label_fault-requires c =
-    let p = c.requires in record { held = p.0; places = p.1.0; homes = p.1.1.0; sound = p.1.1.1; k_lt_count = c.loop-k-test.true }
+label_fault-requires c = record { held = c.requires.held; places = c.requires.places; homes = c.requires.homes; sound = c.requires.sound; k_lt_count = c.loop-k-test.true }
 
 pub returns-then-label_fault : goal.returns-then-label_fault
 returns-then-label_fault c =

@@ -6,8 +6,7 @@ use Rattle.labels.proofs.label_fault.Goals as goal
 
 pub misplaced-requires : goal.misplaced-requires
 misplaced-requires c =
-    let p = c.requires in
-    let q = sym c.control_at.ensures ∙ c.in-Jumps.is in record { held = p.0; places = p.1.0; homes = p.1.1.0; sound = p.1.1.1.0; k_lt_count = p.1.1.1.1; k_value = q }
+    let q = sym c.control_at.ensures ∙ c.in-Jumps.is in record { held = c.requires.held; places = c.requires.places; homes = c.requires.homes; sound = c.requires.sound; k_lt_count = c.requires.k_lt_count; k_value = q }
 
 pub returns-in-Plain : goal.returns-in-Plain
 unfolding label_fault

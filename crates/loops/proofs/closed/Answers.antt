@@ -36,8 +36,7 @@ overflow_add-least c =
 pub returns-in-Done : goal.returns-in-Done
 unfolding capped loop_of
 returns-in-Done c =
-    let v = c.w-1.given in
-    rw (v.1, c.least-in-Done.ensures, c.least.ensures) (ap (Done (v.0.0 + 1)) (passes-capped _ v.0.1.0))
+    rw (c.in-Done.is, c.least-in-Done.ensures, c.least.ensures) (ap (Done (c.in-Done.next + 1)) (passes-capped _ c.in-Done.steps))
 
 pub returns-in-Bad : goal.returns-in-Bad
 unfolding capped loop_of
