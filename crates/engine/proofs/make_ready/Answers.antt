@@ -12,7 +12,7 @@ returns-in-Refused c = made-unfit _ _ c.check.ensures c.in-Refused.is c.unfit.en
 pub returns-in-Whole : goal.returns-in-Whole
 returns-in-Whole c =
     let frame = c.frame in
-    made-fit _ _ c.check.ensures c.in-Accepted.is frame.ensures.0 c.in-Whole.is (subst (Fits _) c.in-Whole.is frame.ensures.1) c.fit.ensures
+    made-fit _ _ c.check.ensures c.in-Accepted.is frame.ensures.value c.in-Whole.is (subst (Fits _) c.in-Whole.is frame.ensures.fits) c.fit.ensures
 
 pub returns-in-Broken : goal.returns-in-Broken
 returns-in-Broken c =

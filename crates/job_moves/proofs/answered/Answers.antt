@@ -9,14 +9,14 @@ use Rattle.job_moves.proofs.answered.Goals as goal
 
 pub overflow_add-place : goal.overflow_add-place
 overflow_add-place c =
-    let l = c.args.t4 in
+    let l = c.args.l in
     let n : Fits w32 (get_or l 1 0) = search rules in
     let q : Fits w32 (get_or l 2 0) = search rules in
     omega arith
 
 pub judge-requires : goal.judge-requires
 judge-requires c =
-    let l = c.args.t4 in
+    let l = c.args.l in
     let s : Fits w32 (get_or l 0 0) = search rules in
     let n : Fits w32 (get_or l 1 0) = search rules in
     (c.requires.checked.held, omega arith, omega arith)
