@@ -3,6 +3,11 @@
 // a descriptor no contract can say: those functions are safe and end.
 #![tactic(auto)]
 
+// Standard output and standard error.
+pub const STDOUT_FILENO: i32 = 1;
+
+pub const STDERR_FILENO: i32 = 2;
+
 pub mod arguments;
 pub mod asked;
 mod errors;
