@@ -30,7 +30,8 @@ fn text_of(path: &[u8]) -> Result<&str> {
     }
 }
 
-fn open_read<R: Files>(rt: &R, path: &[u8]) -> Result<R::File> {
+// A file, for reading.
+pub fn open_read<R: Files>(rt: &R, path: &[u8]) -> Result<R::File> {
     fs::open(rt, text_of(path)?)
 }
 

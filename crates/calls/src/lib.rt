@@ -10,7 +10,7 @@ pub const STDERR_FILENO: i32 = 2;
 
 pub mod arguments;
 pub mod asked;
-mod errors;
+pub mod errors;
 pub mod files;
 pub mod numbers;
 pub mod results;
