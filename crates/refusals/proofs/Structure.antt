@@ -4,7 +4,7 @@ use mathlib.Core.Bool.{Bool, true, false, not}
 use mathlib.Core.Path.{◌≡◌, refl, sym, ap, ◌∙◌}
 use native.Mathlib.Omega.{arith}
 use native.Mathlib.Numerals.{add-one}
-use lib.Dec.{eqb}
+use lib.Dec.{leb, eqb}
 use borrow.Author.Tests.{eqb-true, eqb-false, eq-eqb, ne_eqb, leb-true, le-leb, not-true}
 use Rattle.ec20.specs.declared.Control.{Control}
 use Rattle.ec20.specs.declared.Control.TheVariants.{Plain, Opens, Closes, Jumps, Marks, Ends}
@@ -12,6 +12,7 @@ use Rattle.ec20.specs.declared.Judged.{Judged}
 use Rattle.ec20.specs.declared.Judged.TheVariants.{Fault}
 use Rattle.ec20.specs.Basics.{pick}
 use Rattle.ec20.specs.Code.{Program}
+use Rattle.ec20.specs.Devices.{deepest}
 use Rattle.ec20.specs.Control.{control_of, controls_of}
 use Rattle.ec20.specs.Loops.{breaks_inside, breaks_last, breaks, unsound_from, first_unsound}
 use Rattle.ec20.proofs.Tests.{differ}
@@ -83,8 +84,8 @@ module _ (p : Program) where
 
   from-line : (k : ℕ) → Line6 p k → breaks_at k ≡ true
   unfolding breaks breaks_last breaks_inside control_of
-  from-line k (stray_next e h) = in_either k (λ t. rw (e, h) (elim t [ true ↦ refl | false ↦ refl ]))
-  from-line k (ninth_for e h) = in_either k (λ t. rw e (elim t [ true ↦ refl | false ↦ le-leb _ _ h ]))
+  from-line k (stray_next e h) = in_either k (λ t. rw (e, h) (elim t as (λ (u : Bool). pick u true true ≡ true) [ true ↦ refl | false ↦ refl ]))
+  from-line k (ninth_for e h) = in_either k (λ t. rw e (elim t as (λ (u : Bool). pick u true (leb deepest (depth_at p k)) ≡ true) [ true ↦ refl | false ↦ le-leb _ _ h ]))
   from-line k (early_end e h) = rw (ne_eqb (k + 1) p.count (λ (z : k + 1 ≡ p.count). omega arith), e) refl
   from-line k (last_not_end h f) = at_last k h (last-other (controls_of p k) (depth_at p k) (λ e. f (is-end e)))
   from-line k (for_open_there h g) = at_last k h (last-open (controls_of p k) (depth_at p k) g)

@@ -31,21 +31,18 @@ tested c = c.is_zero.ensures ∙ ap is_zero (to_z-of_z c.ranges.b)
 -- what a division asks
 asked-2 : (c : goal.After-wrapped-quotient) → (is_zero (to_z w64 (of_z w64 c.args.b)) ≡ false) × SFits w64 (quot_z (to_z w64 (of_z w64 c.args.a)) (to_z w64 (of_z w64 c.args.b)))
 asked-2 c =
-    let s = c.before.before in
-    rw (to_z-of_z s.ranges.a, to_z-of_z s.ranges.b)
-    (sym (tested-4 c) ∙ c.if-is_zero.false, near_fits s.args.h s.requires.0 (quotient-near s.args.h s.args.a s.args.b s.requires.1))
+    rw (to_z-of_z c.ranges.a, to_z-of_z c.ranges.b)
+    (sym (tested-4 c) ∙ c.if-is_zero.false, near_fits c.args.h c.requires.0 (quotient-near c.args.h c.args.a c.args.b c.requires.1))
 
 -- what a division asks
 asked : (c : goal.Else-is_zero) → (is_zero (to_z w64 (of_z w64 c.args.b)) ≡ false) × SFits w64 (quot_z (to_z w64 (of_z w64 c.args.a)) (to_z w64 (of_z w64 c.args.b)))
 asked c =
-    let s = c.before.before in
-    rw (to_z-of_z s.ranges.a, to_z-of_z s.ranges.b)
-    (sym (tested-3 c) ∙ c.if-is_zero.false, near_fits s.args.h s.requires.0 (quotient-near s.args.h s.args.a s.args.b s.requires.1))
+    rw (to_z-of_z c.ranges.a, to_z-of_z c.ranges.b)
+    (sym (tested-3 c) ∙ c.if-is_zero.false, near_fits c.args.h c.requires.0 (quotient-near c.args.h c.args.a c.args.b c.requires.1))
 
 exact : (c : goal.After-both) → to_z w64 (of_z w64 c.quot.result) ≡ quot_z c.args.a c.args.b
 exact c =
-    let s = c.before.before.before in
-    said w64 c.quot.type_inv (c.quot.ensures ∙ ap₂ quot_z (to_z-of_z s.ranges.a) (to_z-of_z s.ranges.b))
+    said w64 c.quot.type_inv (c.quot.ensures ∙ ap₂ quot_z (to_z-of_z c.ranges.a) (to_z-of_z c.ranges.b))
 
 pub returns-then-is_zero : goal.returns-then-is_zero
 unfolding div_of
@@ -60,8 +57,7 @@ rest-remainder-requires c = asked-2 c
 pub returns : goal.returns
 unfolding div_of
 returns c =
-    let s = c.before.before.before.before.before.before in
-    let q = said w64 c.wrapped-quotient.type_inv (c.wrapped-quotient.ensures ∙ ap (wrap s.args.h) (exact c)) in
-    let r = said w64 c.rest-remainder.type_inv (c.rest-remainder.ensures ∙ ap₂ rem_z (to_z-of_z s.ranges.a) (to_z-of_z s.ranges.b)) in
+    let q = said w64 c.wrapped-quotient.type_inv (c.wrapped-quotient.ensures ∙ ap (wrap c.args.h) (exact c)) in
+    let r = said w64 c.rest-remainder.type_inv (c.rest-remainder.ensures ∙ ap₂ rem_z (to_z-of_z c.ranges.a) (to_z-of_z c.ranges.b)) in
     let t = sym (tested-2 c) ∙ c.if-is_zero.false in
     c.both.ensures ∙ rw (q, r, t)

@@ -20,8 +20,7 @@ tested c = c.is_lowest.ensures ∙ ap (is_lowest c.args.h) (to_z-of_z c.ranges.a
 
 pub opposite-requires : goal.opposite-requires
 opposite-requires c =
-    let s = c.before.before in
-    rw (to_z-of_z s.ranges.a) (opposite-fits s.args.h s.args.a s.requires.0 s.requires.1)
+    rw (to_z-of_z c.ranges.a) (opposite-fits c.args.h c.args.a c.requires.0 c.requires.1)
 
 pub returns-then-is_lowest : goal.returns-then-is_lowest
 unfolding neg_of
@@ -30,7 +29,6 @@ returns-then-is_lowest c = c.refused.ensures ∙ rw (sym (tested c) ∙ c.if-is_
 pub returns-else-is_lowest : goal.returns-else-is_lowest
 unfolding neg_of
 returns-else-is_lowest c =
-    let s = c.before.before.before.before in
-    let v = said w64 c.opposite.type_inv (c.opposite.ensures ∙ ap neg_ℤ (to_z-of_z s.ranges.a)) in
+    let v = said w64 c.opposite.type_inv (c.opposite.ensures ∙ ap neg_ℤ (to_z-of_z c.ranges.a)) in
     let t = sym (tested-2 c) ∙ c.if-is_lowest.false in
     c.stored.ensures ∙ rw (v, t)

@@ -7,13 +7,19 @@ use Rattle.arith.proofs.Roots.{root-small, Judged, turn-fits, turn_in, turn-out,
 use Rattle.arith.proofs.root.Goals as goal
 
 -- what the square grows by has 32 bits
-fits : (c : goal.In-loop-place invariant-loop decreases-loop) → c.loop-place.r + c.loop-place.place < 4294967296
+fits-2 : (c : goal.Then-more-rest) → c.loop-place.r + c.loop-place.place < 4294967296
+fits-2 c =
+    let l = c.loop-place in
+    turn-fits c.args.n l.rest l.r l.place l.invariant (omega arith)
+
+-- what the square grows by has 32 bits
+fits : (c : goal.After-row_known-1) → c.loop-place.r + c.loop-place.place < 4294967296
 fits c =
     let l = c.loop-place in
     turn-fits c.args.n l.rest l.r l.place l.invariant (omega arith)
 
 -- what the loop leaves
-found : (c : goal.After-loop-place invariant-loop decreases-loop) → c.loop-place.r ≡ root_of c.args.n
+found : (c : goal.After-loop-place) → c.loop-place.r ≡ root_of c.args.n
 found c =
     let n = c.args.n in
     let l = c.loop-place in
@@ -25,16 +31,14 @@ overflow_cast-rest c = omega arith
 
 pub loop-place-init : goal.loop-place-init
 loop-place-init c =
-    ⊎_elim
-    (λ w. rw w.1 (8, 0, (omega arith, omega arith, refl, omega arith), refl))
-    (λ w. rw w.1 (16, 0, (omega arith, omega arith, refl, omega arith), refl))
+    ⊎_elim (λ w. rw w.place-is (8, 0, (omega arith, omega arith, refl, omega arith), refl)) (λ w. rw w.place-is (16, 0, (omega arith, omega arith, refl, omega arith), refl))
     c.if-rest-lt65536.branch-raw
 
 pub overflow_add-more : goal.overflow_add-more
-overflow_add-more c = omega (arith, fits c.before)
+overflow_add-more c = omega (arith, fits c)
 
 pub overflow_add-r : goal.overflow_add-r
-overflow_add-r c = omega (arith, fits c.before.before)
+overflow_add-r c = omega (arith, fits-2 c)
 
 pub loop-place-smaller : goal.loop-place-smaller
 loop-place-smaller c = omega arith
@@ -43,9 +47,7 @@ pub loop-place-preserved : goal.loop-place-preserved
 loop-place-preserved c =
     let n = c.args.n in
     let l = c.loop-place in
-    ⊎_elim
-    (λ w. rw (w.1, w.2) (turn_in n l.rest l.r l.place l.invariant (omega arith) (omega arith)))
-    (λ w. rw (w.1, w.2) (turn-out n l.rest l.r l.place l.invariant (omega arith) (omega arith)))
+    ⊎_elim (λ w. rw (w.rest-is, w.r-is) (turn_in n l.rest l.r l.place l.invariant (omega arith) (omega arith))) (λ w. rw (w.rest-is, w.r-is) (turn-out n l.rest l.r l.place l.invariant (omega arith) (omega arith)))
     c.if-more-rest.branch-raw
 
 pub overflow_cast-result : goal.overflow_cast-result

@@ -11,9 +11,8 @@ use Rattle.arith.proofs.sum.Goals as goal
 pub returns : goal.returns
 unfolding sum_of
 returns c =
-    let s = c.before.before.before.before.before in
-    let h = s.args.h in
-    let k = to_z-of_z s.ranges.z in
+    let h = c.args.h in
+    let k = to_z-of_z c.ranges.z in
     let v = said w64 c.wrapped-value.type_inv (c.wrapped-value.ensures ∙ ap (wrap h) k) in
     let zero = c.is_zero-zero.ensures ∙ ap is_zero k in
     let above = c.is_above-above.ensures ∙ ap (is_above h) k in

@@ -35,14 +35,12 @@ returns-then-lowest c = c.refused.ensures ∙ rw (sym (tested c) ∙ c.if-lowest
 
 pub opposite-requires : goal.opposite-requires
 opposite-requires c =
-    let s = c.before.before.before.before in
-    rw (to_z-of_z s.ranges.a) (opposite-fits s.args.h s.args.a s.requires.0 s.requires.1)
+    rw (to_z-of_z c.ranges.a) (opposite-fits c.args.h c.args.a c.requires.0 c.requires.1)
 
 pub returns-then-negative : goal.returns-then-negative
 unfolding vabs_of
 returns-then-negative c =
-    let s = c.before.before.before.before.before.before in
-    let e = ap neg_ℤ (to_z-of_z s.ranges.a) ∙ size-neg s.args.a (sym (sign c) ∙ c.if-negative.true) in
+    let e = ap neg_ℤ (to_z-of_z c.ranges.a) ∙ size-neg c.args.a (sym (sign c) ∙ c.if-negative.true) in
     let v = said w64 c.opposite.type_inv (c.opposite.ensures ∙ e) in
     let t = sym (tested-2 c) ∙ c.if-lowest.false in
     c.stored.ensures ∙ rw (v, t)
@@ -50,7 +48,6 @@ returns-then-negative c =
 pub returns : goal.returns
 unfolding vabs_of
 returns c =
-    let s = c.before.before.before.before.before in
-    let v = to_z-of_z s.ranges.a ∙ sym (not_neg s.args.a (sym (sign-2 c) ∙ c.if-negative.false)).1 in
+    let v = to_z-of_z c.ranges.a ∙ sym (not_neg c.args.a (sym (sign-2 c) ∙ c.if-negative.false)).1 in
     let t = sym (tested-3 c) ∙ c.if-lowest.false in
     c.stored-2.ensures ∙ rw (v, t)

@@ -75,6 +75,5 @@ overflow_cast-result-8 c = omega (arith, c.type_inv.bits (c.args.at + 7))
 
 pub returns : goal.returns
 returns c =
-    let k = c.before.before.before.before.before.before.before in
-    let a = k.before.args in
-    read-eight a.bits.now a.at (λ j. omega (arith, k.shared-slice-known.given j))
+    let a = c.args in
+    read-eight a.bits.now a.at (λ j. omega (arith, c.type_inv.bits j))

@@ -40,8 +40,7 @@ loop-i-preserved c =
     let l = c.loop-i in
     let e : packed a.bits.now (8 * a.at) (8 * l.i + 8) ≡ packed a.bits.now (8 * a.at) (8 * (l.i + 1)) = ap (packed a.bits.now (8 * a.at)) (omega arith) in (
       omega arith,
-      ⊎_elim (λ w. w.2 ∙ read_more a.bits.now a.at (λ j. omega (arith, w.1.given j)) l.i (omega arith) l.invariant.1 ∙ e)
-          (λ w. w.1 ∙ read_none a.bits.now a.at l.i (omega (arith, w.0.left)) l.invariant.1 ∙ e)
+      ⊎_elim (λ w. w.v-is ∙ read_more a.bits.now a.at (λ j. omega (arith, w.shared_slice_known-1.given j)) l.i (omega arith) l.invariant.1 ∙ e) (λ w. w.v-is ∙ read_none a.bits.now a.at l.i (omega (arith, w.if-at-i.false)) l.invariant.1 ∙ e)
           c.if-at-i.branch-raw,
     )
 

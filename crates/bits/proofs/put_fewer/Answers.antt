@@ -43,8 +43,8 @@ loop-i-preserved c =
     let put = put_on a.bits.now a.at c.requires.1 l.i a.v l.invariant.1 in
     let e : spread a.bits.now (8 * a.at) (8 * l.i + 8) a.v ≡ spread a.bits.now (8 * a.at) (8 * (l.i + 1)) a.v = ap (λ (n : ℕ). spread a.bits.now (8 * a.at) n a.v) (omega arith) in (
       omega arith,
-      ⊎_elim (λ w. w.1 ∙ put ∙ e) (λ w. w.1 ∙ sym (set_out l.bits (a.at + l.i) _ (omega (arith, w.0.left))) ∙ put ∙ e) c.if-at-i.branch-raw,
-      ⊎_elim (λ w. ap length w.1 ∙ length-set l.bits _ _ ∙ l.invariant.2) (λ w. ap length w.1 ∙ l.invariant.2) c.if-at-i.branch-raw,
+      ⊎_elim (λ w. w.bits-is ∙ put ∙ e) (λ w. w.bits-is ∙ sym (set_out l.bits (a.at + l.i) _ (omega (arith, w.if-at-i.false))) ∙ put ∙ e) c.if-at-i.branch-raw,
+      ⊎_elim (λ w. ap length w.bits-is ∙ length-set l.bits _ _ ∙ l.invariant.2) (λ w. ap length w.bits-is ∙ l.invariant.2) c.if-at-i.branch-raw,
     )
 
 pub shape_of-bits : goal.shape_of-bits

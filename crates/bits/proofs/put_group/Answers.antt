@@ -11,23 +11,19 @@ use Rattle.bits.proofs.put_group.Goals as goal
 pub returns-then-w-eq16 : goal.returns-then-w-eq16
 unfolding with_group
 returns-then-w-eq16 c =
-    let u = c.before.before.before in
-    let s = u.before.before.before.before.before in
-    let a = s.args in
-    rw (eq-eqb _ _ u.before.before.before.if1.true)
+    let a = c.args in
+    rw (eq-eqb _ _ c.if-w-eq16.true)
     (c.scatter.ensures
     ∙ ap₂ (λ (n x : ℕ). spread a.bits.now a.first n x)
-    u.before.group-size.ensures.0
-    (u.bits.ensures ∙ ap (low 65536) (to_z-of_z s.ranges.v)))
+    c.group_size.ensures.0
+    (c.bits.ensures ∙ ap (low 65536) (to_z-of_z c.ranges.v)))
 
 pub returns-else-w-eq16 : goal.returns-else-w-eq16
 unfolding with_group
 returns-else-w-eq16 c =
-    let u = c.before.before.before in
-    let s = u.before.before.before.before.before in
-    let a = s.args in
-    rw (ne_eqb _ _ u.before.before.before.if1.false)
+    let a = c.args in
+    rw (ne_eqb _ _ c.if-w-eq16.false)
     (c.scatter-else-w-eq16.ensures
     ∙ ap₂ (λ (n x : ℕ). spread a.bits.now a.first n x)
-    u.before.group-size2.ensures.0
-    (u.bits3.ensures ∙ ap (low 4294967296) (to_z-of_z s.ranges.v)))
+    c.group_size-else-w-eq16.ensures.0
+    (c.bits-else-w-eq16.ensures ∙ ap (low 4294967296) (to_z-of_z c.ranges.v)))

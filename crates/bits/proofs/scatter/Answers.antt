@@ -44,14 +44,10 @@ put_fewer-requires c = (omega arith, λ k. omega (arith, c.slice_known-1.given k
 
 pub returns-then-at-bits : goal.returns-then-at-bits
 returns-then-at-bits c =
-    let x = c.before.before.before.before.before in
-    let s = x.before.before.before in
-    let a = s.args in
-    spread-code a.bits.now _ a.first a.size a.v x.bytes-from.result s.requires.0 x.bytes-from.ensures c.put_eight.ensures
+    let a = c.args in
+    spread-code a.bits.now _ a.first a.size a.v c.bytes_from-x.result c.requires.0 c.bytes_from-x.ensures c.put_eight.ensures
 
 pub returns-else-at-bits : goal.returns-else-at-bits
 returns-else-at-bits c =
-    let x = c.before.before.before.before.before in
-    let s = x.before.before.before in
-    let a = s.args in
-    spread-code a.bits.now _ a.first a.size a.v x.bytes-from.result s.requires.0 x.bytes-from.ensures c.put_fewer.ensures
+    let a = c.args in
+    spread-code a.bits.now _ a.first a.size a.v c.bytes_from-x.result c.requires.0 c.bytes_from-x.ensures c.put_fewer.ensures

@@ -7,11 +7,11 @@ use borrow.Author.Rules.{rules}
 use Rattle.flow.proofs.load.Goals as goal
 
 -- the block stack that was chosen
-blocks_is : (c : goal.Joined-s) → c.if-s.n ≡ pick (starts_now c.args.s) c.args.s.blocks (push c.args.s.blocks (is_on c.args.s))
+blocks_is : (c : goal.After-make_flow) → c.if-s.n ≡ pick (starts_now c.args.s) c.args.s.blocks (push c.args.s.blocks (is_on c.args.s))
 unfolding starts_now
 blocks_is c =
-    ⊎_elim (λ w. w.1 ∙ rw w.0.taken refl) (λ w. w.1 ∙ rw (w.0.left, c.pushed-more.ensures, c.is_on.ensures) refl) c.if-s.branch
+    ⊎_elim (λ w. w.n-is ∙ rw w.if-s.true refl) (λ w. w.n-is ∙ rw (w.if-s.false, c.pushed-more.ensures, c.is_on.ensures) refl) c.if-s.branch-raw
 
 pub returns : goal.returns
 unfolding loaded
-returns c = rw (c.make_flow.ensures, c.flow_of.ensures, blocks_is c.before.before) refl
+returns c = rw (c.make_flow.ensures, c.flow_of.ensures, blocks_is c) refl

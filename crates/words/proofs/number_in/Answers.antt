@@ -11,12 +11,12 @@ use Rattle.words.proofs.number_in.Goals as goal
 high : (c : goal.After-wide16-in_default) → Told (2 ^ 15) c.wide16-in_default.result (word_at c.args.d.now c.args.i)
 high c =
     let a = c.args in
-    word_read a.d.now a.i c.wide16-in_default.type_inv c.wide16-arg-in_default-1.is c.wide16-in_default.ensures
+    word_read a.d.now a.i c.wide16-in_default.type_inv c.wide16-arg-in_default-1.given c.wide16-in_default.ensures
 
 low : (c : goal.After-wide16-in_default-2) → Told (2 ^ 15) c.wide16-in_default-2.result (word_at c.args.d.now (c.args.i + 1))
 low c =
     let a = c.args in
-    word_read a.d.now (a.i + 1) c.wide16-in_default-2.type_inv c.wide16-arg-in_default-2-1.is c.wide16-in_default-2.ensures
+    word_read a.d.now (a.i + 1) c.wide16-in_default-2.type_inv c.wide16-arg-in_default-2-1.given c.wide16-in_default-2.ensures
 
 pub raised-high-requires : goal.raised-high-requires
 raised-high-requires c = omega (arith, (high c).1)
@@ -28,14 +28,11 @@ pub returns-in-16 : goal.returns-in-16
 unfolding number_at
 returns-in-16 c =
     let a = c.args in
-    rw c.in-16.is (word_read a.d.now a.i c.wide16.type_inv c.wide16-arg-1.is c.wide16.ensures)
+    rw c.in-16.is (word_read a.d.now a.i c.wide16.type_inv c.wide16-arg-1.given c.wide16.ensures)
 
 pub returns-in_default : goal.returns-in_default
 unfolding number_at
 returns-in_default c =
-    let at_low = c.before in
-    let at_high = at_low.before.before.before in
-    let at-match = at_high.before.before.before in
-    let a = at-match.before.args in
-    rw (ne_eqb _ _ at-match.match.rest.1)
-    (pair_read a.d.now a.i _ _ at_high.raised.ensures (high at_high.before).0 at_low.raised2.ensures (low at_low.before).0 c.of_bits.type_inv c.of_bits.ensures)
+    let a = c.args in
+    rw (ne_eqb _ _ c.in_default.in_default-own.rest.1)
+    (pair_read a.d.now a.i _ _ c.raised-high.ensures (high c.before.before.before.before.before).0 c.raised-low.ensures (low c.before.before).0 c.of_bits.type_inv c.of_bits.ensures)

@@ -15,9 +15,7 @@ raised-low-requires c = (told 2147483648 {z = c.word_at-2.result} c.word_at-2.ty
 
 pub returns : goal.returns
 returns c =
-    let at_low = c.before in
-    let at_high = at_low.before.before in
-    let a = at_high.before.before.args in
-    let high = at_high.before.word_at in
-    let low = at_low.before.word-at2 in
-    pair_read a.d.now a.i _ _ at_high.raised.ensures (said w64 high.type-inv high.ensures.0) at_low.raised2.ensures (said w64 low.type-inv low.ensures.0) c.of_bits.type_inv c.of_bits.ensures
+    let a = c.args in
+    let high = c.word_at in
+    let low = c.word_at-2 in
+    pair_read a.d.now a.i _ _ c.raised-high.ensures (said w64 high.type_inv high.ensures.0) c.raised-low.ensures (said w64 low.type_inv low.ensures.0) c.of_bits.type_inv c.of_bits.ensures

@@ -15,13 +15,11 @@ use Rattle.words.proofs.put_in.Goals as goal
 -- the two words of v
 first : (c : goal.After-of_bits) → Told (2 ^ 15) c.of_bits.result (high_word c.args.v)
 first c =
-    let at-raised = c.before in
-    high-of _ at-raised.raised.ensures (to_z-of_z at-raised.before.before.ranges.v) c.of_bits.type_inv c.of_bits.ensures
+    high-of _ c.raised-u.ensures (to_z-of_z c.ranges.v) c.of_bits.type_inv c.of_bits.ensures
 
 second : (c : goal.After-of_bits-in_default) → Told (2 ^ 15) c.of_bits-in_default.result (low_word c.args.v)
 second c =
-    let at-raised = c.before.before.before in
-    low_of _ at-raised.raised.ensures (to_z-of_z at-raised.before.before.ranges.v) c.of_bits-in_default.type_inv c.of_bits-in_default.ensures
+    low_of _ c.raised-u.ensures (to_z-of_z c.ranges.v) c.of_bits-in_default.type_inv c.of_bits-in_default.ensures
 
 pub narrow16-requires : goal.narrow16-requires
 narrow16-requires c =
@@ -46,11 +44,8 @@ returns-in-16 c =
 pub returns-in_default : goal.returns-in_default
 unfolding with_number with_pair
 returns-in_default c =
-    let at_low = c.before in
-    let at_high = at_low.before in
-    let at-match = at_high.before.before.before in
-    let a = at-match.before.args in
-    rw (ne_eqb _ _ at-match.match.rest.1)
+    let a = c.args in
+    rw (ne_eqb _ _ c.in_default.in_default-own.rest.1)
     (ap₂ (λ (x y : ℤ). set (set a.d.now a.i x) (a.i + 1) y)
-    (said w16 at_high.narrow162.type-inv (at_high.narrow162.ensures ∙ (first at_high.before).0))
-    (said w16 c.narrow16-in_default-2.type_inv (c.narrow16-in_default-2.ensures ∙ (second at_low).0)))
+    (said w16 c.narrow16-in_default.type_inv (c.narrow16-in_default.ensures ∙ (first c.before.before.before).0))
+    (said w16 c.narrow16-in_default-2.type_inv (c.narrow16-in_default-2.ensures ∙ (second c.before).0)))

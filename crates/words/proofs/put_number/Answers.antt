@@ -19,13 +19,11 @@ put_pair-requires c =
 pub returns-in-16 : goal.returns-in-16
 unfolding with_number
 returns-in-16 c =
-    let s = c.before.before.before.before in
     rw c.in-16.is
-    (c.put_word.ensures ∙ ap (λ (y : ℤ). set s.args.d.now s.args.i y) (to_z-of_z s.ranges.v))
+    (c.put_word.ensures ∙ ap (λ (y : ℤ). set c.args.d.now c.args.i y) (to_z-of_z c.ranges.v))
 
 pub returns-in_default : goal.returns-in_default
 unfolding with_number
 returns-in_default c =
-    let s = c.before.before.before.before in
     rw (ne_eqb _ _ c.in_default.in_default-own.rest.1)
-    (c.put_pair.ensures ∙ ap (λ (y : ℤ). with_pair s.args.d.now s.args.i y) (to_z-of_z s.ranges.v))
+    (c.put_pair.ensures ∙ ap (λ (y : ℤ). with_pair c.args.d.now c.args.i y) (to_z-of_z c.ranges.v))

@@ -13,13 +13,15 @@ use Rattle.words.proofs.put_pair.Goals as goal
 -- the two words of v
 first : (c : goal.After-of_bits) → Told (2 ^ 15) c.of_bits.result (high_word c.args.v)
 first c =
-    let at-raised = c.before.before in
-    high-of _ at-raised.raised.ensures (to_z-of_z at-raised.before.ranges.v) c.of_bits.type_inv c.of_bits.ensures
+    high-of _ c.raised-u.ensures (to_z-of_z c.ranges.v) c.of_bits.type_inv c.of_bits.ensures
+
+second-2 : (c : goal.After-d-2-1) → Told (2 ^ 15) c.of_bits-2.result (low_word c.args.v)
+second-2 c =
+    low_of _ c.raised-u.ensures (to_z-of_z c.ranges.v) c.of_bits-2.type_inv c.of_bits-2.ensures
 
 second : (c : goal.After-of_bits-2) → Told (2 ^ 15) c.of_bits-2.result (low_word c.args.v)
 second c =
-    let at-raised = c.before.before.before.before.before.before in
-    low_of _ at-raised.raised.ensures (to_z-of_z at-raised.before.ranges.v) c.of_bits-2.type_inv c.of_bits-2.ensures
+    low_of _ c.raised-u.ensures (to_z-of_z c.ranges.v) c.of_bits-2.type_inv c.of_bits-2.ensures
 
 pub put_word-requires : goal.put_word-requires
 put_word-requires c = (first c).1
@@ -30,9 +32,8 @@ put_word-requires-2 c = (second c).1
 pub returns : goal.returns
 unfolding with_pair
 returns c =
-    let f = c.before.before.before.before.before in
-    let a = f.before.before.before.before.args in
+    let a = c.args in
     c.put_word-2.ensures
     ∙ ap₂ (λ (l : List ℤ) (y : ℤ). set l (a.i + 1) y)
-    (f.put_word.ensures ∙ ap (λ (y : ℤ). set a.d.now a.i y) (first f.before).0)
-    (second c.before.before).0
+    (c.put_word.ensures ∙ ap (λ (y : ℤ). set a.d.now a.i y) (first c.before.before.before.before.before.before).0)
+    (second-2 c).0

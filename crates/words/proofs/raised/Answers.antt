@@ -9,6 +9,10 @@ use Rattle.words.proofs.Steps.{raised-fits, raised-plain}
 use Rattle.words.proofs.raised.Goals as goal
 
 -- what the sum is
+sum-2 : (c : goal.After-plain) → to_z w64 (of_z w64 c.plus.result) ≡ c.args.z +ℤ pos 4294967296
+sum-2 c = said w64 c.plus.type_inv (c.plus.ensures ∙ ap (λ (y : ℤ). y +ℤ pos 4294967296) (to_z-of_z c.ranges.z))
+
+-- what the sum is
 sum : (c : goal.After-plus) → to_z w64 (of_z w64 c.plus.result) ≡ c.args.z +ℤ pos 4294967296
 sum c = said w64 c.plus.type_inv (c.plus.ensures ∙ ap (λ (y : ℤ). y +ℤ pos 4294967296) (to_z-of_z c.ranges.z))
 
@@ -19,4 +23,4 @@ pub plain-requires : goal.plain-requires
 plain-requires c = rw (sum c) (raised-plain c.args.z c.requires)
 
 pub returns : goal.returns
-returns c = c.plain.ensures ∙ sum c.before
+returns c = c.plain.ensures ∙ sum-2 c

@@ -13,4 +13,4 @@ returns-then-d-i c = (sym (get_or-eq_default c.args.d.now (pos 0) (omega arith))
 pub returns : goal.returns
 returns c =
     let a = c.args in
-    word_read a.d.now a.i c.wide16.type_inv c.wide16-arg-1.is c.wide16.ensures
+    word_read a.d.now a.i c.wide16.type_inv c.wide16-arg-1.given c.wide16.ensures
