@@ -34,7 +34,7 @@ fi
 command -v "$cc" >/dev/null || die "no $cc: install the Debian package $package"
 
 mkdir -p "$out/files" "$out/programs" || exit 1
-if [ -z "${BENCH_BUILT-}" ] && ! rt staticlib host >"$out/staticlib.log" 2>&1; then
+if [ -z "${BENCH_BUILT-}" ] && ! (cd crates/host && rt lib) >"$out/staticlib.log" 2>&1; then
     tail -n 20 "$out/staticlib.log" >&2
     die "host was not built; $out/staticlib.log has all that was said"
 fi
@@ -56,7 +56,7 @@ compile() {
     made=$1
     shift
     "$cc" -O2 -Wall -fno-reorder-functions -falign-functions=64 -falign-loops=64 $defined -o "$out/$made" $static \
-        -Wl,--whole-archive target/staticlib/libhost.a -Wl,--no-whole-archive "$@" $reference -lm || exit 1
+        -Wl,--whole-archive crates/host/out/libhost.a -Wl,--no-whole-archive "$@" $reference -lm || exit 1
 }
 
 run() { ${emulator:+"$emulator"} "$@"; }

@@ -3,7 +3,7 @@
    table and byte that they leave is the same, and nothing past a lent part is written.
    The library is not instrumented: the fuzzer is led by the branches of the C, and by the answers, which are counted where it looks.
 
-   clang -g -O1 -fsanitize=fuzzer,address,undefined robustness/fuzz-answer.c target/staticlib/libhost.a */
+   clang -g -O1 -fsanitize=fuzzer,address,undefined robustness/fuzz-answer.c crates/host/out/libhost.a */
 #include "../bench/answer.c"
 #include <stdlib.h>
 

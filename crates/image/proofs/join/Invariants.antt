@@ -1,0 +1,18 @@
+-- The loop's invariant: the first i bytes are written, of words of 16 bits. Assumes nothing.
+use Prim.Native.Nat.{ℕ, ◌-◌, ◌<◌}
+use native.Mathlib.Omega.{arith}
+use lib.ListN.{length}
+use borrow.Author.Count.{below_more}
+use borrow.Author.Rules.{rules}
+use Rattle.ec20.specs.Memory.{memory}
+use Rattle.ec20.specs.Plant.{plant}
+use Rattle.image.specs.Image.{image_byte, Word16}
+use Rattle.image.proofs.Filling.{Filling, filling-none, filling-more, filling-done}
+use Rattle.image.proofs.Inverse.{joined-image, joined-plant}
+use Rattle.image.proofs.join.Given as goal
+
+abbrev pub invariant-loop-i : goal.invariant-loop-i
+invariant-loop-i l = Filling 0 (length l.initial.b) l.i (λ j. image_byte (plant (memory l.x l.y l.m l.sm l.t l.d l.tv) l.rest) j) l.b × ((j : ℕ) → j < l.i → Word16 l.d l.tv j)
+
+abbrev pub decreases-loop-i : goal.decreases-loop-i
+decreases-loop-i l = length l.initial.b - l.i

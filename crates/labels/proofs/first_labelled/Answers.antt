@@ -1,0 +1,25 @@
+use borrow.Author.Rules.{rules}
+use mathlib.Core.Path.{◌≡◌, refl, ap, ◌∙◌}
+use native.Mathlib.Nat.{sub-zero}
+use Prim.Native.Nat.{◌-◌}
+use Rattle.ec20.specs.Basics.{first_at, refused_at}
+use Rattle.ec20.specs.Code.{program_in}
+use Rattle.ec20.specs.Control.{controls_of}
+use Rattle.ec20.specs.File.{records_from}
+use Rattle.ec20.specs.Labels.{label_fault, first_unlabelled}
+use Rattle.labels.proofs.Laws.{fails}
+use Rattle.labels.proofs.first_labelled.Goals as goal
+
+pub loop-k-init : goal.loop-k-init
+loop-k-init c = rw sub-zero
+
+pub returns-then-labelled : goal.returns-then-labelled
+returns-then-labelled c = c.loop-k.invariant
+
+pub loop-k-preserved : goal.loop-k-preserved
+loop-k-preserved c =
+    let l = c.loop-k in
+    l.invariant ∙ ap (refused_at 7) (fails _ l.k _ (search rules) (c.labelled.ensures c.if-labelled.false) refl)
+
+pub returns : goal.returns
+returns c = c.loop-k.invariant

@@ -1,0 +1,13 @@
+use borrow.Author.Rules.{rules}
+use native.Mathlib.Omega.{arith}
+use Rattle.ec20.specs.Code.{program_in}
+use Rattle.ec20.specs.Control.{controls_of}
+use Rattle.ec20.specs.File.{records_from}
+use Rattle.labels.proofs.Table.{Filled, filled_none, filled_more, filled-same, filled-all}
+use Rattle.labels.proofs.places.Given as goal
+
+abbrev pub invariant-loop-k : goal.invariant-loop-k
+invariant-loop-k l = Filled (controls_of (program_in (records_from l.f l.first l.count))) l.count l.k l.table
+
+abbrev pub decreases-loop-k : goal.decreases-loop-k
+decreases-loop-k l = l.k

@@ -1,0 +1,25 @@
+-- The smaller of the two, or 0 without flow. Assumes nothing.
+use mir.Facts.{to_z-of_z}
+use Rattle.ec20.specs.Timers.{old_of, counted_of}
+use Rattle.ints.proofs.TwosLaws.{not-true, not-false}
+use mathlib.Core.Path.{ap, ◌∙◌}
+use native.Mathlib.Omega.{arith}
+use Rattle.ec20.specs.Timers.{counted_of}
+use borrow.Author.Rules.{rules}
+use Rattle.operands.proofs.counted.Goals as goal
+
+pub returns-then-not-on : goal.returns-then-not-on
+unfolding counted_of
+returns-then-not-on c = rw c.if-not-on.true (search rules)
+
+pub returns-then-n-limit : goal.returns-then-n-limit
+unfolding counted_of
+returns-then-n-limit c =
+    let e = c.old.ensures.0 ∙ ap old_of (to_z-of_z c.ranges.z) in
+    rw c.if-not-on.false (omega (arith, e), omega arith)
+
+pub returns-else-n-limit : goal.returns-else-n-limit
+unfolding counted_of
+returns-else-n-limit c =
+    let e = c.old.ensures.0 ∙ ap old_of (to_z-of_z c.ranges.z) in
+    rw c.if-not-on.false (omega (arith, e), omega arith)

@@ -1,0 +1,19 @@
+-- The loop's invariant: the state is within the stacks, and the judgement from record k on, in that state, is the whole judgement.
+use borrow.Author.Rules.{rules}
+use mathlib.Core.Bool.{true, false}
+use mathlib.Core.Path.{◌≡◌, sym, ◌∙◌}
+use native.Mathlib.Nat.{sub-zero}
+use Prim.Native.Nat.{◌-◌, ◌≤◌}
+use Rattle.ec20.specs.Code.{code_of, program_in}
+use Rattle.ec20.specs.File.{records_from}
+use Rattle.ec20.specs.Rung.{broken_from, first_broken}
+use Rattle.rungs.proofs.Laws.{turn, broke, done, turned, within-after}
+use Rattle.rungs.specs.Within.{Within}
+use Rattle.rungs.proofs.first_broken.Given as goal
+
+abbrev pub invariant-loop-k : goal.invariant-loop-k
+invariant-loop-k l =
+    (l.k ≤ l.count) × Within l.s × (first_broken (program_in (records_from l.f l.first l.count)) ≡ broken_from (code_of (records_from l.f l.first l.count)) l.s l.k (l.count - l.k))
+
+abbrev pub decreases-loop-k : goal.decreases-loop-k
+decreases-loop-k l = l.count - l.k
