@@ -2,7 +2,8 @@
 ghost use Rattle.std.specs.Prelude.{◌≡◌};
 ghost use Rattle.cases.specs.Filled.{one_more};
 
-use libc::STDOUT_FILENO;
+// The descriptor of standard output.
+pub const STDOUT_FILENO: i32 = 1;
 
 // One more of the cases of number k.
 pub fn one_more(met: &mut [usize], k: usize)
@@ -59,6 +60,15 @@ pub fn refusals(met: &[usize], first: usize, last: usize) {
         say_number(k);
         line(b"", met[k]);
         k += 1;
+    }
+}
+
+// What failed, and why, as a line to standard error: the name, a colon and the system's text, without its number.
+pub fn failed(rt: &(impl Eprint + Alloc), name: &str, e: &std::io::Error) -> std::io::Result<()> {
+    let text = format!(in rt.alloc(); "{e}")?;
+    match text.as_str().split_once(" (os error ") {
+        Some((said, _)) => eprintln!(rt; "{name}: {said}"),
+        None => eprintln!(rt; "{name}: {text}"),
     }
 }
 

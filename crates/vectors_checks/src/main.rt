@@ -5,6 +5,8 @@
 mod case;
 
 use cases::{reading, told};
+use std::fs;
+use std::os::fd::AsRawFd;
 
 // The n cases. Each verdict is counted in met: at its number if it is a refusal, at 0 if not.
 fn section(fd: i32, n: usize, met: &mut [usize; 9]) {
@@ -35,13 +37,14 @@ fn run(fd: i32, n: usize) {
     told::ended(reading::at_end(fd));
 }
 
-fn main() {
-    let name = b"checks.bin";
-    let fd = os::open_read(name);
-    if fd < 0 {
-        os::fail(name);
-        return;
+fn main(rt: HostRuntime) -> std::io::Result<()> {
+    let name = "checks.bin";
+    match fs::open(&rt, name) {
+        Ok(file) => {
+            let fd = file.as_raw_fd();
+            run(fd, reading::head(fd, 2));
+            Ok(())
+        }
+        Err(e) => told::failed(&rt, name, &e),
     }
-    run(fd, reading::head(fd, 2));
-    libc::close(fd);
 }

@@ -7,9 +7,11 @@ mod leaf;
 mod number;
 mod outcome;
 
+use cases::told::STDOUT_FILENO;
 use cases::{reading, told};
 use leaf::Case;
-use libc::STDOUT_FILENO;
+use std::fs;
+use std::os::fd::AsRawFd;
 
 // How many cases the file says that there are.
 #[derive(Clone, Copy)]
@@ -125,13 +127,14 @@ fn run(fd: i32) {
     }
 }
 
-fn main() {
-    let name = b"leaves.bin";
-    let fd = os::open_read(name);
-    if fd < 0 {
-        os::fail(name);
-        return;
+fn main(rt: HostRuntime) -> std::io::Result<()> {
+    let name = "leaves.bin";
+    match fs::open(&rt, name) {
+        Ok(file) => {
+            let fd = file.as_raw_fd();
+            run(fd);
+            Ok(())
+        }
+        Err(e) => told::failed(&rt, name, &e),
     }
-    run(fd);
-    libc::close(fd);
 }

@@ -5,6 +5,8 @@
 mod case;
 
 use cases::{reading, told};
+use std::fs;
+use std::os::fd::AsRawFd;
 
 // The n cases. The file is that of the case before, where a case says so. Each wanted number is counted in met, 0 for moved.
 fn section(fd: i32, n: usize, file: &mut [u8; 65536], met: &mut [usize; 15]) {
@@ -38,13 +40,14 @@ fn run(fd: i32, n: usize) {
     told::ended(reading::at_end(fd));
 }
 
-fn main() {
-    let name = b"moves.bin";
-    let fd = os::open_read(name);
-    if fd < 0 {
-        os::fail(name);
-        return;
+fn main(rt: HostRuntime) -> std::io::Result<()> {
+    let name = "moves.bin";
+    match fs::open(&rt, name) {
+        Ok(file) => {
+            let fd = file.as_raw_fd();
+            run(fd, reading::head(fd, 4));
+            Ok(())
+        }
+        Err(e) => told::failed(&rt, name, &e),
     }
-    run(fd, reading::head(fd, 4));
-    libc::close(fd);
 }

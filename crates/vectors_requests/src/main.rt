@@ -9,6 +9,8 @@ mod judge;
 mod tables;
 
 use cases::{reading, told};
+use std::fs;
+use std::os::fd::AsRawFd;
 
 // The n cases. The tables m and d are those of the case before, where a case says so; e is what d is wanted to be. Each answer is counted in met.
 fn section(fd: i32, n: usize, m: &mut [u8], d: &mut [i16], e: &mut [i16], met: &mut [usize; 30]) {
@@ -36,13 +38,14 @@ fn run(fd: i32, n: usize) {
     told::ended(reading::at_end(fd));
 }
 
-fn main() {
-    let name = b"requests.bin";
-    let fd = os::open_read(name);
-    if fd < 0 {
-        os::fail(name);
-        return;
+fn main(rt: HostRuntime) -> std::io::Result<()> {
+    let name = "requests.bin";
+    match fs::open(&rt, name) {
+        Ok(file) => {
+            let fd = file.as_raw_fd();
+            run(fd, reading::head(fd, 7));
+            Ok(())
+        }
+        Err(e) => told::failed(&rt, name, &e),
     }
-    run(fd, reading::head(fd, 7));
-    libc::close(fd);
 }

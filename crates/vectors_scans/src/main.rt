@@ -11,6 +11,8 @@ mod tables;
 mod told;
 
 use cases::reading;
+use std::fs;
+use std::os::fd::AsRawFd;
 
 // The n cases. The file and the image are those of the case before, where a case says so.
 fn section(
@@ -45,13 +47,14 @@ fn run(fd: i32, n: usize) {
     cases::told::ended(reading::at_end(fd));
 }
 
-fn main() {
-    let name = b"scans.bin";
-    let fd = os::open_read(name);
-    if fd < 0 {
-        os::fail(name);
-        return;
+fn main(rt: HostRuntime) -> std::io::Result<()> {
+    let name = "scans.bin";
+    match fs::open(&rt, name) {
+        Ok(file) => {
+            let fd = file.as_raw_fd();
+            run(fd, reading::head(fd, 3));
+            Ok(())
+        }
+        Err(e) => cases::told::failed(&rt, name, &e),
     }
-    run(fd, reading::head(fd, 3));
-    libc::close(fd);
 }

@@ -12,6 +12,10 @@ mod texts;
 
 use crate::counts::Judged;
 use cases::{reading, told};
+use std::fs;
+use std::fs::File;
+use std::os::fd::AsRawFd;
+use std::rt::Files;
 
 // The next case of a file of this kind.
 fn next(fd: i32, kind: usize) -> Judged {
@@ -40,21 +44,27 @@ fn section(fd: i32, kind: usize, n: usize, kinds: &[u8], met: &mut [usize; 20]) 
 }
 
 // A case file.
-fn run(name: &[u8], kind: usize, kinds: &[u8]) {
-    let fd = os::open_read(name);
-    if fd < 0 {
-        os::fail(name);
-        return;
+fn run(
+    rt: &(impl Files<File = File> + Eprint + Alloc),
+    name: &str,
+    kind: usize,
+    kinds: &[u8],
+) -> std::io::Result<()> {
+    match fs::open(rt, name) {
+        Ok(file) => {
+            let fd = file.as_raw_fd();
+            let mut met = [0usize; 20];
+            section(fd, kind, reading::head(fd, kind), kinds, &mut met);
+            counts::tell(kind, &met);
+            told::ended(reading::at_end(fd));
+            Ok(())
+        }
+        Err(e) => told::failed(rt, name, &e),
     }
-    let mut met = [0usize; 20];
-    section(fd, kind, reading::head(fd, kind), kinds, &mut met);
-    counts::tell(kind, &met);
-    told::ended(reading::at_end(fd));
-    libc::close(fd);
 }
 
-fn main() {
-    run(b"lists.bin", 8, b"lists");
-    run(b"texts.bin", 9, b"texts");
-    run(b"unitlists.bin", 10, b"unit lists");
+fn main(rt: HostRuntime) -> std::io::Result<()> {
+    run(&rt, "lists.bin", 8, b"lists")?;
+    run(&rt, "texts.bin", 9, b"texts")?;
+    run(&rt, "unitlists.bin", 10, b"unit lists")
 }

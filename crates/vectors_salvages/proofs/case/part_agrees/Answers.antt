@@ -1,0 +1,10 @@
+-- Each size is at most the length of what it is a part of. Assumes nothing.
+use native.Mathlib.Omega.{arith}
+use lib.ListN.{length-take}
+use Rattle.vectors_salvages.proofs.case.part_agrees.Goals as goal
+
+pub slice_bounds-agrees-end : goal.slice_bounds-agrees-end
+slice_bounds-agrees-end c = simp length-take (omega arith)
+
+pub slice_bounds-agrees-end-2 : goal.slice_bounds-agrees-end-2
+slice_bounds-agrees-end-2 c = simp length-take (omega arith)
