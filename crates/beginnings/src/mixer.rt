@@ -2,6 +2,7 @@
 // declares it, which is refused.
 use calls::{files, text, texts};
 use ec20::{Mapped, Moved};
+use std::rt::Files;
 use telling::{report, spans};
 use unit_commands::lists;
 
@@ -27,9 +28,9 @@ fn tell_units(list: &[u8], old: &[u8], out: i32) -> i32 {
 }
 
 // The unit list that word 3 of the call names.
-fn tell_list(call: &[u8], old: &[u8], out: i32, err: i32) -> Told {
+fn tell_list(rt: &impl Files, call: &[u8], old: &[u8], out: i32, err: i32) -> Told {
     let mut list = io::large_buffer();
-    let loaded = files::load(text::word(call, 3), err, &mut list);
+    let loaded = files::load(rt, text::word(call, 3), err, &mut list);
     let n = loaded.n;
     if loaded.whole {
         return Told {
@@ -54,12 +55,12 @@ fn tell_declared(old: &[u8], new: &mut [u8], out: i32) -> i32 {
     if n > new.len() {
         return to;
     }
-    bytes::copy(old, new);
+    new[..n].copy_from_slice(old);
     tell_move(&mut new[0..n], to)
 }
 
 // The bytes of the program, which word 1 names, and a buffer for the moved one.
-pub fn begin(call: &[u8], old: &[u8], new: &mut [u8], out: i32, err: i32) -> Told {
+pub fn begin(rt: &impl Files, call: &[u8], old: &[u8], new: &mut [u8], out: i32, err: i32) -> Told {
     let m = usemap::use_map(old);
     if m.number != 0 {
         let refused = report::refused(text::word(call, 1), old, m.number, m.at, out, err);
@@ -68,7 +69,7 @@ pub fn begin(call: &[u8], old: &[u8], new: &mut [u8], out: i32, err: i32) -> Tol
             status: refused.status,
         };
     }
-    let declared = tell_list(call, old, tell_map(m, out), err);
+    let declared = tell_list(rt, call, old, tell_map(m, out), err);
     if declared.status != 0 {
         return declared;
     }

@@ -10,6 +10,8 @@ use calls::numbers::Number;
 use calls::results::Outcome;
 use calls::{files, numbers, results, text, texts};
 use ec20::{DEFAULT_BUDGET, Report, Scanned};
+use std::random::RandomSource;
+use std::rt::Files;
 use telling::report;
 
 // good: both are numbers.
@@ -59,6 +61,7 @@ pub struct Sizes {
 
 // The files that words 1 and `memory_word` name. A longer program file than the buffer holds is refused by 1, as for check.
 pub fn load(
+    rt: &impl Files,
     call: &[u8],
     memory_word: usize,
     err: i32,
@@ -67,7 +70,7 @@ pub fn load(
 ) -> Sizes
     ensures { IsPrefixLen result.program program.new }
 {
-    let one = files::load(text::word(call, 1), err, program);
+    let one = files::load(rt, text::word(call, 1), err, program);
     if !one.whole {
         return Sizes {
             program: 0,
@@ -75,7 +78,7 @@ pub fn load(
             whole: false,
         };
     }
-    let two = files::load(text::word(call, memory_word), err, memory);
+    let two = files::load(rt, text::word(call, memory_word), err, memory);
     Sizes {
         program: one.n,
         memory: two.n,
@@ -85,6 +88,7 @@ pub fn load(
 
 // The answer is told once the memory file is replaced.
 fn tell_ran(
+    rt: &(impl Files + RandomSource),
     call: &[u8],
     how: usize,
     r: Report,
@@ -92,15 +96,22 @@ fn tell_ran(
     out: i32,
     err: i32,
 ) -> Outcome {
-    if files::replace(text::word(call, 2), image, err) {
+    if files::replace(rt, text::word(call, 2), image, err) {
         return report::scanned(how, r, out, err);
     }
     results::not_tried()
 }
 
 // Where the call named no budget, what can be done about the watchdog is said after the answer.
-fn tell_stopped(call: &[u8], r: Report, image: &[u8; 16892], out: i32, err: i32) -> Outcome {
-    let o = tell_ran(call, texts::WATCHDOG, r, image, out, err);
+fn tell_stopped(
+    rt: &(impl Files + RandomSource),
+    call: &[u8],
+    r: Report,
+    image: &[u8; 16892],
+    out: i32,
+    err: i32,
+) -> Outcome {
+    let o = tell_ran(rt, call, texts::WATCHDOG, r, image, out, err);
     if (o.status == 0) & (text::count(call) != 5) {
         texts::say(err, texts::NAME_A_BUDGET, r.steps, 0, 0, 0);
     }
@@ -109,6 +120,7 @@ fn tell_stopped(call: &[u8], r: Report, image: &[u8; 16892], out: i32, err: i32)
 
 // 1 to 8 are told of the program file, word 1, and 9 of the memory file, word 2, which has so many bytes.
 pub fn tell(
+    rt: &(impl Files + RandomSource),
     call: &[u8],
     f: &[u8],
     s: Scanned,
@@ -118,8 +130,8 @@ pub fn tell(
     err: i32,
 ) -> Outcome {
     match s {
-        Scanned::Ended(r) => tell_ran(call, texts::ENDED, r, image, out, err),
-        Scanned::Watchdog(r) => tell_stopped(call, r, image, out, err),
+        Scanned::Ended(r) => tell_ran(rt, call, texts::ENDED, r, image, out, err),
+        Scanned::Watchdog(r) => tell_stopped(rt, call, r, image, out, err),
         Scanned::Refused { number, record } => {
             let word = text::word(call, 1 + number / 9);
             let o = report::refused(word, f, number, record, out, err);

@@ -9,6 +9,7 @@ use crate::{changes, mixer, scans, shown};
 use calls::{asked, numbers, text};
 use ec20::Moved;
 use memories::exchanges::Way;
+use std::rt::Files;
 use telling::report;
 
 // A move of a program: the block and the pool, the scans that follow it, the word of the call that names the memory, and
@@ -198,12 +199,13 @@ fn copied(
     if n > new.len() {
         return stopped(2);
     }
-    bytes::copy(old, new);
+    new[..n].copy_from_slice(old);
     move_copy(call, old, &mut new[0..n], memory, t, out, err)
 }
 
 // The story ahead of it, where it is to be told.
 fn told(
+    rt: &impl Files,
     call: &[u8],
     old: &[u8],
     new: &mut [u8],
@@ -215,7 +217,7 @@ fn told(
     ensures { result.status ≡ 0 → MovedTo old.now (block result.way.start result.way.length) result.way.place (take result.n new.new) × (result.n ≡ length old.now) }
 {
     if t.told {
-        let b = mixer::begin(call, old, new, out, err);
+        let b = mixer::begin(rt, call, old, new, out, err);
         if b.status != 0 {
             return stopped(b.status);
         }
@@ -226,6 +228,7 @@ fn told(
 
 // The old program is the first n bytes of its buffer.
 fn part(
+    rt: &impl Files,
     call: &[u8],
     old: &[u8],
     n: usize,
@@ -240,12 +243,13 @@ fn part(
     if n > old.len() {
         return stopped(2);
     }
-    told(call, &old[0..n], new, memory, t, out, err)
+    told(rt, call, &old[0..n], new, memory, t, out, err)
 }
 
 // Afterwards the old program is at the start of its buffer, the new one of its own, and the memory file of its own. Where the scans follow, the move was
 // accepted: the new program is the old one with the block at its place.
 pub fn begin(
+    rt: &impl Files,
     call: &[u8],
     t: Tried,
     old: &mut [u8; 65536],
@@ -259,10 +263,10 @@ pub fn begin(
     if !t.good {
         return stopped(2);
     }
-    let s = scans::load(call, t.memory_word, err, old, memory);
+    let s = scans::load(rt, call, t.memory_word, err, old, memory);
     if !s.whole {
         return stopped(2);
     }
     let m = judged(memory, s.memory);
-    part(call, old, s.program, new, m, t, out, err)
+    part(rt, call, old, s.program, new, m, t, out, err)
 }

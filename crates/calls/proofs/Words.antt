@@ -1,25 +1,38 @@
 -- The words of a call by their definitions, and what the loops over them keep. Assumes nothing.
-use Rattle.std.proofs.Common.{◌≡◌, ℕ, suc, ◌+◌, ◌-◌, ◌<◌, ◌≤◌, Bool, true, false, cond, ◌&&◌, T, eqb, List, [], ◌∷◌, length, get_or, take, drop, sym, refl, ap, ◌∙◌, subst, ap₂, add-one, arith, length-drop, drop_of_length-le, take_all, drop-cons, drop-drop, eq-eqb, ne_eqb, eqb-true}
-use lib.Seq.{take-length}
-use Rattle.bytes.specs.Bytes.{index_of, index_after, slice}
-use Rattle.calls.specs.Text.{until_zero, after_zero, rest_at, word_of, count_of, same_word, which_from}
+use Rattle.std.proofs.Common.{◌≡◌, ℕ, suc, ◌+◌, ◌-◌, ◌<◌, ◌≤◌, Bool, true, false, cond, ◌&&◌, T, eqb, ◌==◌, List, [], ◌∷◌, length, get_or, take, drop, sym, refl, ap, ◌∙◌, subst, ap₂, add-one, arith, length-drop, drop_of_length-le, take_all, drop-cons, drop-drop, eq-eqb, ne_eqb, eqb-true}
+use Rattle.calls.specs.Text.{until, until_zero, after_zero, rest_at, word_of, count_of, same_word, which_from}
 
 -- ---- where the first zero byte stands
 
-index-by : (t : Bool) (b k : ℕ) (u : List ℕ) → k ≡ length u → index_after t k ≡ length (cond t [] (b ∷ u))
-unfolding index_after
-index-by true b k u e = refl
-index-by false b k u e = ap suc e
+until-same : (t : Bool) (b : ℕ) (u v : List ℕ) → u ≡ v → cond t [] (b ∷ u) ≡ cond t [] (b ∷ v)
+until-same t b u v e = ap (λ (l : List ℕ). cond t [] (b ∷ l)) e
 
-pub index_is : (s : List ℕ) → index_of 0 s ≡ length (until_zero s)
-unfolding index_of until_zero
-index_is [] = refl
-index_is (b ∷ s) = index-by (eqb b 0) b (index_of 0 s) (until_zero s) (index_is s)
+pub until_is_zero : (s : List ℕ) → until 0 s ≡ until_zero s
+unfolding until until_zero
+until_is_zero [] = refl
+until_is_zero (b ∷ s) = until-same (b == 0) b (until 0 s) (until_zero s) (until_is_zero s)
 
 -- it is looked for from a place on
-pub ends : (s : List ℕ) (from : ℕ) → from + index_of 0 (slice from (length s) s) ≡ from + length (until_zero (drop from s))
-unfolding slice
-ends s from = ap (λ (l : List ℕ). from + index_of 0 (drop from l)) (take-length s) ∙ ap (λ (n : ℕ). from + n) (index_is (drop from s))
+pub ends : (s : List ℕ) (from : ℕ) → from + length (until 0 (drop from s)) ≡ from + length (until_zero (drop from s))
+ends s from = ap (λ (l : List ℕ). from + length l) (until_is_zero (drop from s))
+
+-- ---- a search for the byte x: n is where what is asked for stands
+
+module _ (s : List ℕ) (x i n : ℕ) (h : i + length (until x (drop i s)) ≡ n) where
+  find_at : (t : Bool) → i < length s → (get_or s i 0 == x) ≡ t → length (until x (drop i s)) ≡ length (cond t [] (get_or s i 0 ∷ until x (drop (suc i) s)))
+  unfolding until
+  find_at t l e =
+      ap (λ (u : List ℕ). length (until x u)) (drop-cons s i 0 l) ∙ ap (λ (b : Bool). length (cond b [] (get_or s i 0 ∷ until x (drop (suc i) s)))) e
+
+  pub find-here : i < length s → get_or s i 0 ≡ x → i ≡ n
+  find-here l z = let e = find_at true l (eq-eqb _ _ z) in omega (arith, e, h)
+
+  pub find-later : i < length s → (get_or s i 0 ≡ x → ⊥) → i + 1 + length (until x (drop (i + 1) s)) ≡ n
+  find-later l z = let e = find_at false l (ne_eqb _ _ z) in rw (add-one i) (omega (arith, e, h))
+
+  pub find-none : length s ≤ i → i ≡ n
+  unfolding until
+  find-none l = let e : length (until x (drop i s)) ≡ 0 = ap (λ (u : List ℕ). length (until x u)) (drop_of_length-le s l) in omega (arith, e, h)
 
 -- what is ahead of it
 until-by : (t : Bool) (b : ℕ) (s u : List ℕ) → take (length u) s ≡ u → take (length (cond t [] (b ∷ u))) (b ∷ s) ≡ cond t [] (b ∷ u)

@@ -1,6 +1,13 @@
 -- "The words of a call, which is lent as bytes: word after word, each ended by a zero byte. Word 0 is the command."
 use Rattle.std.specs.Prelude.{ℕ, zero, suc, Bool, true, false, cond, ◌&&◌, List, [], ◌∷◌, ◌==◌}
 
+-- what stands ahead of the first byte x: all, where there is none
+unfoldable pub until : ℕ → List ℕ → List ℕ
+until x [] = []
+until x (b ∷ s) =
+    let rest = until x s in
+    cond (b == x) [] (b ∷ rest)
+
 -- what stands ahead of the first zero byte: all, where there is none
 unfoldable pub until_zero : List ℕ → List ℕ
 until_zero [] = []

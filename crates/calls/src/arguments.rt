@@ -1,6 +1,8 @@
 // The arguments of the program as the words of a call, each ended by a zero byte.
 ghost use Rattle.std.specs.Prelude.{◌≡◌, length};
 
+use std::env::{Env, FillError};
+
 // A word in the call from `at` on, where zeros are. Answers where the next one begins: past its zero byte.
 fn add(call: &mut [u8], at: usize, word: &[u8]) -> usize {
     let n = word.len();
@@ -12,29 +14,31 @@ fn add(call: &mut [u8], at: usize, word: &[u8]) -> usize {
     if n >= m - at {
         return next;
     }
-    bytes::copy(word, &mut call[at..]);
+    call[at..at + n].copy_from_slice(word);
     next
 }
 
-// Argument i. A word that is longer than the buffer has the call end past every buffer.
-fn add_argument(call: &mut [u8], at: usize, i: usize) -> usize {
+// Argument i; none where there is no such argument. A word that is longer than the buffer has the call end past every buffer.
+fn add_argument(rt: &impl Env, call: &mut [u8], at: usize, i: usize) -> Option<usize> {
     let mut word = io::large_buffer();
-    let n = os::arg(i, &mut word);
-    if os::errno() != 0 {
-        return 1_000_000;
+    match rt.arg(i, &mut word) {
+        Ok(n) => Some(add(call, at, &word[..n])),
+        Err(FillError::TooLong) => Some(1_000_000),
+        Err(FillError::NotPresent) => None,
     }
-    add(call, at, &word[..n])
 }
 
 // All but the program's own name, in a buffer of zeros. Answers how long the call is; it fits where that is no more than the buffer holds.
-pub fn gather(call: &mut [u8]) -> usize
+pub fn gather(rt: &impl Env, call: &mut [u8]) -> usize
     ensures { length call.new ≡ length call.old }
 {
-    let count = os::arg_count();
     let mut n: usize = 0;
     let mut i: usize = 1;
-    while i < count {
-        n = add_argument(call, n, i);
+    while i < usize::MAX {
+        match add_argument(rt, call, n, i) {
+            Some(next) => n = next,
+            None => return n,
+        }
         i += 1;
     }
     n

@@ -1,10 +1,9 @@
 // Why a call of the system failed, in words.
 use crate::texts;
 
-// A line: what failed, and why by errno.
-pub fn failed(err: i32, what: &[u8]) {
-    let number = os::errno();
-    let k = match number {
+// A line: what failed, and why by its errno; 0 for what has none.
+pub fn failed(err: i32, what: &[u8], why: std::io::Error) {
+    let k = match why.raw_os_error().unwrap_or(0) {
         2 => texts::REASON,
         13 => texts::REASON + 1,
         20 => texts::REASON + 2,

@@ -3,9 +3,14 @@
 // a descriptor no contract can say: those functions are safe and end.
 #![tactic(auto)]
 
+// Standard output and standard error.
+pub const STDOUT_FILENO: i32 = 1;
+
+pub const STDERR_FILENO: i32 = 2;
+
 pub mod arguments;
 pub mod asked;
-mod errors;
+pub mod errors;
 pub mod files;
 pub mod numbers;
 pub mod results;

@@ -1,13 +1,29 @@
 // The words of a call, which is lent as bytes: word after word, each ended by a zero byte. Word 0 is the command.
 ghost use Rattle.std.specs.Prelude.{◌≡◌, ◌+◌, ◌≤◌, length, drop};
-ghost use Rattle.calls.specs.Text.{until_zero, after_zero, rest_at, word_of, count_of, which_of};
+ghost use Rattle.calls.specs.Text.{until, until_zero, after_zero, rest_at, word_of, count_of, which_of};
+
+// Where the byte stands first from `from` on, or the text ends.
+pub fn find(text: &[u8], from: usize, byte: u8) -> usize
+    requires { from ≤ length text.now }
+    ensures place { result ≡ from + length (until byte (drop from text.now)) }
+    ensures in_bounds { (from ≤ result) × (result ≤ length text.now) }
+{
+    let mut at = from;
+    while at < text.len() {
+        if text[at] == byte {
+            return at;
+        }
+        at += 1;
+    }
+    at
+}
 
 // Where the word that begins at `from` ends: at its zero byte, or where the call ends.
 fn end_of(call: &[u8], from: usize) -> usize
     requires { from ≤ length call.now }
     ensures { (result ≡ from + length (until_zero (drop from call.now))) × (result ≤ length call.now) }
 {
-    bytes::scan::find(call, from, call.len(), 0)
+    find(call, from, 0)
 }
 
 // Where the word after it begins, or the call ends.

@@ -201,7 +201,7 @@ fn filled(out: i32, text: &[u8], a: usize, b: usize, c: usize, d: usize) -> i32 
     let mut k: usize = 0;
     let mut at: usize = 0;
     while at < n {
-        let end = bytes::scan::find(text, at, n, b'%');
+        let end = text::find(text, at, b'%');
         to = put(to, &text[at..end]);
         if end < n {
             to = number(to, nth(k, a, b, c, d));

@@ -1,14 +1,14 @@
 -- The report by the rows is the report of the list. Assumes nothing.
 use Prim.Native.Nat.{ℕ, zero, suc, ◌+◌, ◌-◌, ◌*◌, ◌/◌, ◌%◌, ◌<◌, ◌≤◌, min}
-use mathlib.Core.Bool.{Bool, true, false, not, ◌&&◌, and_assoc, and-true}
-use mathlib.Core.List.{List, [], ◌∷◌, ◌++◌}
+use mathlib.Core.Bool.{Bool, true, false, ◌&&◌, and_assoc, and-true}
+use mathlib.Core.List.{List, ◌∷◌, ◌++◌}
 use mathlib.Core.Path.{◌≡◌, refl, sym, ap, ap₂, subst, ◌∙◌}
 use native.Mathlib.Omega.{arith}
 use lib.ListN.{length, get_or}
 use lib.Dec.{ltb, leb, eqb}
-use borrow.Author.Tests.{eq-eqb, ne_eqb, le-leb, lt-leb, leb-true, leb-false, not-true, not-false}
+use borrow.Author.Tests.{eq-eqb, ne_eqb, le-leb, lt-leb, leb-true, leb-false}
 use Rattle.ec20.proofs.Tests.{both}
-use Rattle.ec20.specs.Basics.{pick, one_if, then}
+use Rattle.ec20.specs.Basics.{pick, then}
 use Rattle.ec20.specs.Devices.{ec20}
 use Rattle.ec20.specs.Move.{block_fault}
 use Rattle.ec20.specs.declared.Judged.{Judged}
@@ -17,24 +17,24 @@ use Rattle.units.specs.Clash.{Declared, clash_of}
 use Rattle.units.specs.Report.{pair, clashes_with, clashes_from, clashes_of, block_of, blocks_fault, list_fault, room_fault, judge_clashes, reported, filled, report_if, report_of}
 use Rattle.units.specs.declared.Clashed.{Clashed}
 use Rattle.units.specs.declared.Clashed.TheVariants.{Refused, Clashes}
-use Rattle.clashes.specs.Rows.{is_fine, right_block, grown_by, row_of, with_row, rows_of, noted, pairs_in, pairs_from, rows_fault, told_of}
+use Rattle.clashes.specs.Rows.{is_fine, right_block, grown_by, row_of, with_row, rows_of, noted, pairs_in, pairs_from, told_of}
 use Rattle.clashes.specs.declared.Rows.{Rows}
 use Rattle.clashes.proofs.RowLaws.{row_at}
 
 -- ---- the ways out of `told`
 
-pub too_many : (r : Rows) (n : ℕ) (b : List (List ℕ)) → not (leb n 64 && r.right) ≡ true → reported (Refused 10 0) b ≡ told_of r n b
+pub too_many : (r : Rows) (n : ℕ) (b : List (List ℕ)) → leb n 64 && r.right ≡ false → reported (Refused 10 0) b ≡ told_of r n b
 unfolding told_of
-too_many r n b h = rw (not-true (leb n 64 && r.right) h) refl
+too_many r n b h = rw h refl
 
-pub no_room : (r : Rows) (n : ℕ) (b : List (List ℕ)) → not (leb n 64 && r.right) ≡ false → length b < 2016 → reported (Refused 16 0) b ≡ told_of r n b
+pub no_room : (r : Rows) (n : ℕ) (b : List (List ℕ)) → leb n 64 && r.right ≡ true → length b < 2016 → reported (Refused 16 0) b ≡ told_of r n b
 unfolding told_of room_fault
-no_room r n b h l = rw (not-false (leb n 64 && r.right) h, lt-leb 2016 (length b) l) refl
+no_room r n b h l = rw (h, lt-leb 2016 (length b) l) refl
 
-pub all_told : (r : Rows) (n k : ℕ) (b after : List (List ℕ)) → not (leb n 64 && r.right) ≡ false → 2016 ≤ length b → k ≡ length (pairs_from r.of 0 n) → after ≡ filled (pairs_from r.of 0 n) b
+pub all_told : (r : Rows) (n k : ℕ) (b after : List (List ℕ)) → leb n 64 && r.right ≡ true → 2016 ≤ length b → k ≡ length (pairs_from r.of 0 n) → after ≡ filled (pairs_from r.of 0 n) b
     → reported (Clashes k) after ≡ told_of r n b
 unfolding told_of room_fault
-all_told r n k b after h l ek ea = rw (not-false (leb n 64 && r.right) h, le-leb 2016 (length b) l, ek, ea) refl
+all_told r n k b after h l ek ea = rw (h, le-leb 2016 (length b) l, ek, ea) refl
 
 -- ---- what the rows of a list tell
 
@@ -133,8 +133,8 @@ pub told_is : (v : Declared) (b : List (List ℕ)) → told_of (rows_of v (min v
 told_is v b = by_count v b (leb v.count 64) refl
 
 -- what `told` knows where it goes on
-pub at-most-64 : (n : ℕ) (t : Bool) → not (leb n 64 && t) ≡ false → n ≤ 64
-at-most-64 n t e = leb-true n 64 (both (leb n 64) t (not-false (leb n 64 && t) e)).0
+pub at-most-64 : (n : ℕ) (t : Bool) → leb n 64 && t ≡ true → n ≤ 64
+at-most-64 n t e = leb-true n 64 (both (leb n 64) t e).0
 
 -- the same, as the calls give it: m places are looked at, their rows are r, and from these the report is made
 pub by_rows : (v : Declared) (b : List (List ℕ)) (m : ℕ) (r : Rows) (a : Clashed) (after : List (List ℕ)) → m ≡ min v.count 64 → r ≡ rows_of v m m → reported a after ≡ told_of r v.count b → reported a after ≡ report_of v b

@@ -10,6 +10,8 @@ ghost use Rattle.std.specs.Prelude.{eqb, ◌||◌, ◌≡◌};
 
 use calls::asked;
 use calls::results::Outcome;
+use std::random::RandomSource;
+use std::rt::Files;
 
 // Whether the command is one of these.
 pub fn scans(command: usize) -> bool
@@ -18,9 +20,15 @@ pub fn scans(command: usize) -> bool
     (command == asked::SCAN) | (command == asked::TRIAL) | (command == asked::DEMO)
 }
 
-pub fn run(command: usize, call: &[u8], out: i32, err: i32) -> Outcome {
+pub fn run(
+    rt: &(impl Files + RandomSource),
+    command: usize,
+    call: &[u8],
+    out: i32,
+    err: i32,
+) -> Outcome {
     if command == asked::SCAN {
-        return scan::run(call, out, err);
+        return scan::run(rt, call, out, err);
     }
-    trial::run(command, call, out, err)
+    trial::run(rt, command, call, out, err)
 }

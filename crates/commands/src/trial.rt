@@ -12,6 +12,7 @@ use calls::results::Outcome;
 use memories::exchanges::Way;
 use memories::{exchanges, tables};
 use memory_scans::pairs;
+use std::rt::Files;
 use turns::images;
 
 // The most steps that a scan of a trial may take, which is more than one without a budget may (document 02, (vi)).
@@ -100,12 +101,12 @@ fn run_moved(
 }
 
 // A trial, or the demo.
-pub fn run(command: usize, call: &[u8], out: i32, err: i32) -> Outcome {
+pub fn run(rt: &impl Files, command: usize, call: &[u8], out: i32, err: i32) -> Outcome {
     let t = trials::wanted(command, call, err);
     let mut old = io::large_buffer();
     let mut new = io::large_buffer();
     let mut memory = io::large_buffer();
-    let b = trials::begin(call, t, &mut old, &mut new, &mut memory, out, err);
+    let b = trials::begin(rt, call, t, &mut old, &mut new, &mut memory, out, err);
     if b.status != 0 {
         return Outcome {
             status: b.status,

@@ -4,10 +4,13 @@ use calls::{files, numbers, results, text};
 use ec20::Exchanged;
 use memories::exchanges::Way;
 use memories::{exchanges, tables};
+use std::random::RandomSource;
+use std::rt::Files;
 use telling::report;
 
 // The answer is told once the memory file, of so many bytes, is replaced.
 fn tell(
+    rt: &(impl Files + RandomSource),
     path: &[u8],
     answer: Exchanged,
     w: Way,
@@ -18,7 +21,7 @@ fn tell(
 ) -> Outcome {
     match answer {
         Exchanged::Done => {
-            if files::replace(path, image, err) {
+            if files::replace(rt, path, image, err) {
                 report::exchanged(
                     w.start as usize,
                     w.length as usize,
@@ -38,19 +41,19 @@ fn tell(
     }
 }
 
-fn run_asked(path: &[u8], w: Way, out: i32, err: i32) -> Outcome {
+fn run_asked(rt: &(impl Files + RandomSource), path: &[u8], w: Way, out: i32, err: i32) -> Outcome {
     let mut memory = io::large_buffer();
-    let loaded = files::load(path, err, &mut memory);
+    let loaded = files::load(rt, path, err, &mut memory);
     if !loaded.whole {
         return results::not_tried();
     }
     let mut image = tables::image();
     tables::start(&memory, &mut image);
     let answer = exchanges::in_image(&mut image, loaded.n, w);
-    tell(path, answer, w, &image, loaded.n, out, err)
+    tell(rt, path, answer, w, &image, loaded.n, out, err)
 }
 
-pub fn run(call: &[u8], out: i32, err: i32) -> Outcome {
+pub fn run(rt: &(impl Files + RandomSource), call: &[u8], out: i32, err: i32) -> Outcome {
     let start = numbers::word(call, 2, numbers::START, err);
     let length = numbers::word(
         call,
@@ -66,7 +69,7 @@ pub fn run(call: &[u8], out: i32, err: i32) -> Outcome {
             length: length.n,
             place: place.n,
         };
-        return run_asked(text::word(call, 1), w, out, err);
+        return run_asked(rt, text::word(call, 1), w, out, err);
     }
     results::not_tried()
 }

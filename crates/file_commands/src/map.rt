@@ -2,6 +2,7 @@
 use calls::results::Outcome;
 use calls::{files, results, text};
 use ec20::Mapped;
+use std::rt::Files;
 use telling::{picture, report, spans};
 
 fn show(m: Mapped, pictured: bool, out: i32) -> i32 {
@@ -23,10 +24,17 @@ fn tell(path: &[u8], file: &[u8], pictured: bool, out: i32, err: i32) -> Outcome
 }
 
 // The map, or the picture of it, of the file that word `word` names. A longer file than the buffer holds is refused by 1, as for check.
-pub fn run(call: &[u8], word: usize, pictured: bool, out: i32, err: i32) -> Outcome {
+pub fn run(
+    rt: &impl Files,
+    call: &[u8],
+    word: usize,
+    pictured: bool,
+    out: i32,
+    err: i32,
+) -> Outcome {
     let path = text::word(call, word);
     let mut buf = io::large_buffer();
-    let loaded = files::load(path, err, &mut buf);
+    let loaded = files::load(rt, path, err, &mut buf);
     let n = loaded.n;
     if loaded.whole {
         return tell(path, &buf[..n], pictured, out, err);

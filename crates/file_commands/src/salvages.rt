@@ -2,6 +2,8 @@
 use calls::results::Outcome;
 use calls::{files, results, text, texts};
 use ec20::Verdict;
+use std::random::RandomSource;
+use std::rt::Files;
 use telling::report;
 use torn::Salvaged;
 
@@ -20,6 +22,7 @@ fn checked(path: &[u8], file: &[u8], err: i32) {
 
 // The answer is told once the file is written.
 fn tell(
+    rt: &(impl Files + RandomSource),
     path: &[u8],
     file: &[u8],
     kept: usize,
@@ -28,7 +31,7 @@ fn tell(
     out: i32,
     err: i32,
 ) -> Outcome {
-    if files::replace(path, file, err) {
+    if files::replace(rt, path, file, err) {
         let o = report::kept(kept, added, rest, out, err);
         checked(path, file, err);
         return o;
@@ -37,7 +40,14 @@ fn tell(
 }
 
 // more: how many bytes of the file stand behind those that are lent. They are part of the rest and nothing else: the buffer holds more than 2,001 records.
-fn run_over(call: &[u8], torn: &[u8], more: usize, out: i32, err: i32) -> Outcome {
+fn run_over(
+    rt: &(impl Files + RandomSource),
+    call: &[u8],
+    torn: &[u8],
+    more: usize,
+    out: i32,
+    err: i32,
+) -> Outcome {
     let mut room = io::large_buffer();
     match salvage::salvage(torn, &mut room) {
         Salvaged::Refused { number, record } => report::refused_by(
@@ -53,18 +63,27 @@ fn run_over(call: &[u8], torn: &[u8], more: usize, out: i32, err: i32) -> Outcom
         Salvaged::Done { kept, added, rest } => {
             let n = 20 * (kept + added) + 8;
             let all = std::num::wrapping_add_usize(rest, more);
-            tell(text::word(call, 2), &room[..n], kept, added, all, out, err)
+            tell(
+                rt,
+                text::word(call, 2),
+                &room[..n],
+                kept,
+                added,
+                all,
+                out,
+                err,
+            )
         }
     }
 }
 
 // A torn file may be of any length. It is read to its end before anything is judged.
-pub fn run(call: &[u8], out: i32, err: i32) -> Outcome {
+pub fn run(rt: &(impl Files + RandomSource), call: &[u8], out: i32, err: i32) -> Outcome {
     let mut buf = io::large_buffer();
-    let loaded = files::load_long(text::word(call, 1), err, &mut buf);
+    let loaded = files::load_long(rt, text::word(call, 1), err, &mut buf);
     let n = loaded.n;
     if loaded.whole {
-        return run_over(call, &buf[..n], loaded.more, out, err);
+        return run_over(rt, call, &buf[..n], loaded.more, out, err);
     }
     results::not_tried()
 }

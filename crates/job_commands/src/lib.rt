@@ -1,5 +1,5 @@
 // job FILE JOB [MEMORY]: the blocks that a job's lines name, each moved to its place in the program file, and their words exchanged in the memory file. It
-// is handed a call and two descriptors: `out` for the answer, `err` for what a refusal means and what could not be tried. What a job does is promised of the
+// is handed the system, a call and two descriptors: `out` for the answer, `err` for what a refusal means and what could not be tried. What a job does is promised of the
 // crates job_texts, job_moves and memory_jobs; here nothing is beyond safety.
 #![tactic(auto)]
 
@@ -11,6 +11,8 @@ use calls::results::Outcome;
 use calls::{asked, files, results, text};
 use jobs::Jobbed;
 use memories::tables;
+use std::random::RandomSource;
+use std::rt::Files;
 
 // Whether the command is this one.
 pub fn knows(command: usize) -> bool
@@ -35,13 +37,20 @@ fn answer(file: &mut [u8], image: &mut [u8; 16892], m: Memory, lines: &[[u32; 3]
 }
 
 // The files are replaced. Answers 0 where all are, 1 where the memory file alone could not be, 2 where none is.
-fn replace(call: &[u8], file: &[u8], image: &[u8; 16892], given: bool, err: i32) -> usize {
+fn replace(
+    rt: &(impl Files + RandomSource),
+    call: &[u8],
+    file: &[u8],
+    image: &[u8; 16892],
+    given: bool,
+    err: i32,
+) -> usize {
     let path = text::word(call, 1);
     if given {
-        let n = files::replace_two(path, file, text::word(call, 3), image, err);
+        let n = files::replace_two(rt, path, file, text::word(call, 3), image, err);
         return std::num::wrapping_sub_usize(2, n);
     }
-    if files::replace(path, file, err) {
+    if files::replace(rt, path, file, err) {
         0
     } else {
         2
@@ -50,6 +59,7 @@ fn replace(call: &[u8], file: &[u8], image: &[u8; 16892], given: bool, err: i32)
 
 // The answer is told once the files are replaced.
 fn tell(
+    rt: &(impl Files + RandomSource),
     call: &[u8],
     file: &[u8],
     image: &[u8; 16892],
@@ -59,7 +69,7 @@ fn tell(
     out: i32,
     err: i32,
 ) -> Outcome {
-    match replace(call, file, image, m.given, err) {
+    match replace(rt, call, file, image, m.given, err) {
         0 => told::done(lines, moves, out, err),
         1 => told::half(err),
         _ => results::not_tried(),
@@ -68,6 +78,7 @@ fn tell(
 
 // The job of these lines.
 fn run_lines(
+    rt: &(impl Files + RandomSource),
     call: &[u8],
     file: &mut [u8],
     image: &mut [u8; 16892],
@@ -91,12 +102,13 @@ fn run_lines(
             };
             told::refused(call, file, m.size, lines, r, out, err)
         }
-        Jobbed::Done { moves } => tell(call, file, image, m, lines, moves, out, err),
+        Jobbed::Done { moves } => tell(rt, call, file, image, m, lines, moves, out, err),
     }
 }
 
 // The job is the first n lines of the room for them; one that has more is refused by 16.
 fn run_first(
+    rt: &(impl Files + RandomSource),
     call: &[u8],
     file: &mut [u8],
     image: &mut [u8; 16892],
@@ -109,11 +121,12 @@ fn run_first(
     if n > lines.len() {
         return told::too_long(text::word(call, 2), out, err);
     }
-    run_lines(call, file, image, m, &lines[..n], out, err)
+    run_lines(rt, call, file, image, m, &lines[..n], out, err)
 }
 
 // Every line is read before anything else is judged.
 fn judge(
+    rt: &(impl Files + RandomSource),
     call: &[u8],
     job: &[u8],
     file: &mut [u8],
@@ -127,10 +140,11 @@ fn judge(
     if !read.good {
         return told::misspelt(text::word(call, 2), read.line, out, err);
     }
-    run_first(call, file, image, m, &lines, read.count, out, err)
+    run_first(rt, call, file, image, m, &lines, read.count, out, err)
 }
 
 fn run_loaded(
+    rt: &(impl Files + RandomSource),
     call: &[u8],
     job: &[u8],
     file: &mut [u8],
@@ -140,21 +154,28 @@ fn run_loaded(
     err: i32,
 ) -> Outcome {
     let n = files::kept(job);
-    judge(call, &job[..n], file, image, m, out, err)
+    judge(rt, call, &job[..n], file, image, m, out, err)
 }
 
 // The memory file, if one is named, is read. A longer one than the buffer holds is refused by 9, as each of another size is.
-fn run_over(call: &[u8], job: &[u8], file: &mut [u8], out: i32, err: i32) -> Outcome {
+fn run_over(
+    rt: &(impl Files + RandomSource),
+    call: &[u8],
+    job: &[u8],
+    file: &mut [u8],
+    out: i32,
+    err: i32,
+) -> Outcome {
     let mut image = tables::image();
     if text::count(call) != 4 {
         let none = Memory {
             given: false,
             size: 0,
         };
-        return run_loaded(call, job, file, &mut image, none, out, err);
+        return run_loaded(rt, call, job, file, &mut image, none, out, err);
     }
     let mut memory = io::large_buffer();
-    let loaded = files::load(text::word(call, 3), err, &mut memory);
+    let loaded = files::load(rt, text::word(call, 3), err, &mut memory);
     if !loaded.whole {
         return results::not_tried();
     }
@@ -163,23 +184,23 @@ fn run_over(call: &[u8], job: &[u8], file: &mut [u8], out: i32, err: i32) -> Out
         given: true,
         size: loaded.n,
     };
-    run_loaded(call, job, file, &mut image, m, out, err)
+    run_loaded(rt, call, job, file, &mut image, m, out, err)
 }
 
 // All files are read before anything is judged. A longer program than the buffer holds is refused by 1, as for check, so that no part of a file is ever
 // written back.
-pub fn run(call: &[u8], out: i32, err: i32) -> Outcome {
+pub fn run(rt: &(impl Files + RandomSource), call: &[u8], out: i32, err: i32) -> Outcome {
     let mut job = io::large_buffer();
-    let lines = files::load(text::word(call, 2), err, &mut job);
+    let lines = files::load(rt, text::word(call, 2), err, &mut job);
     let n = lines.n;
     if !lines.whole {
         return results::not_tried();
     }
     let mut file = io::large_buffer();
-    let program = files::load(text::word(call, 1), err, &mut file);
+    let program = files::load(rt, text::word(call, 1), err, &mut file);
     let m = program.n;
     if !program.whole {
         return results::not_tried();
     }
-    run_over(call, &job[..n], &mut file[..m], out, err)
+    run_over(rt, call, &job[..n], &mut file[..m], out, err)
 }

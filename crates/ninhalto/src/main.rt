@@ -3,39 +3,47 @@
 #![tactic(auto)]
 
 use calls::results::Outcome;
-use calls::{arguments, asked, results, texts};
+use calls::{STDERR_FILENO, STDOUT_FILENO, arguments, asked, results, texts};
+use std::fs::File;
+use std::random::RandomSource;
+use std::rt::{Clock, Files};
 
 const STATUS_FILENO: i32 = 3;
 
 // The command of a call.
-fn chosen(call: &[u8], out: i32, err: i32) -> Outcome {
+fn chosen<R: Files<File = File> + RandomSource + Clock>(
+    rt: &R,
+    call: &[u8],
+    out: i32,
+    err: i32,
+) -> Outcome {
     let command = asked::command(call);
     if commands::scans(command) {
-        return commands::run(command, call, out, err);
+        return commands::run(rt, command, call, out, err);
     }
     if command == asked::SLAVE {
-        return serving::run(call, out, err);
+        return serving::run(rt, call, out, err);
     }
     if unit_commands::knows(command) {
-        return unit_commands::run(command, call, out, err);
+        return unit_commands::run(rt, command, call, out, err);
     }
     if job_commands::knows(command) {
-        return job_commands::run(call, out, err);
+        return job_commands::run(rt, call, out, err);
     }
-    file_commands::run(command, call, out, err)
+    file_commands::run(rt, command, call, out, err)
 }
 
 // The call is the first n bytes, where it fits.
-fn run(call: &[u8], n: usize) -> Outcome {
+fn run<R: Files<File = File> + RandomSource + Clock>(rt: &R, call: &[u8], n: usize) -> Outcome {
     if n > call.len() {
-        texts::say(libc::STDERR_FILENO, texts::TOO_LONG, 0, 0, 0, 0);
+        texts::say(STDERR_FILENO, texts::TOO_LONG, 0, 0, 0, 0);
         return results::not_tried();
     }
-    chosen(&call[0..n], libc::STDOUT_FILENO, libc::STDERR_FILENO)
+    chosen(rt, &call[0..n], STDOUT_FILENO, STDERR_FILENO)
 }
 
-fn main() {
+fn main(rt: HostRuntime) {
     let mut call = io::large_buffer();
-    let n = arguments::gather(&mut call);
-    results::tell(STATUS_FILENO, run(&call, n));
+    let n = arguments::gather(&rt, &mut call);
+    results::tell(STATUS_FILENO, run(&rt, &call, n));
 }

@@ -1,15 +1,15 @@
 -- What the parts of the answer come to. Assumes nothing.
-use Prim.Native.Nat.{ℕ, zero, suc, ◌+◌, ◌*◌, ◌/◌, ◌%◌, ◌≤◌, ◌<◌}
-use mathlib.Core.Bool.{Bool, true, false, not, ◌&&◌, ◌||◌}
+use Prim.Native.Nat.{ℕ, ◌+◌, ◌*◌, ◌/◌, ◌%◌, ◌≤◌, ◌<◌}
+use mathlib.Core.Bool.{Bool, true, false, ◌&&◌, ◌||◌}
 use mathlib.Core.List.{List, [], ◌∷◌, ◌++◌}
-use mathlib.Core.Path.{◌≡◌, refl, sym, ap, ap₂, subst, ◌∙◌}
+use mathlib.Core.Path.{◌≡◌, refl, sym, ap, ◌∙◌}
 use native.Mathlib.Numerals.{add-one}
 use native.Mathlib.Omega.{arith}
 use lib.Dec.{leb, eqb}
 use lib.IntN.{ℤ}
 use lib.ListN.{length, take, drop, set, length-append, length-drop}
 use lib.Seq.{take-suc, length-take-le}
-use borrow.Author.Tests.{leb-true, eqb-true, not-true, not-false, eq-eqb, ne_eqb}
+use borrow.Author.Tests.{leb-true, eqb-true, eq-eqb, ne_eqb}
 use Rattle.ec20.proofs.NoFault.{passed, then-fine}
 use Rattle.ec20.proofs.Tests.{both, each}
 use Rattle.ec20.specs.declared.Judged.{Judged}
@@ -39,17 +39,17 @@ module _ (own : ℕ) (f : List ℕ) (s n c : ℕ) (t : Bool) (es : s ≡ byte_at
   unfolding is_heard
   heard-as = rw (et, es, en, ec) refl
 
-  pub not-heard : not ((eqb s own || eqb s 0) && t) ≡ true → false ≡ is_heard own f
-  not-heard h = sym (heard-as ∙ ap (λ (x : Bool). x && crc_fits f) (not-true ((eqb s own || eqb s 0) && t) h))
+  pub not-heard : (eqb s own || eqb s 0) && t ≡ false → false ≡ is_heard own f
+  not-heard h = sym (heard-as ∙ ap (λ (x : Bool). x && crc_fits f) h)
 
   -- a frame whose length fits has a CRC to look at
-  pub crc-there : not ((eqb s own || eqb s 0) && t) ≡ false → 2 ≤ length f
+  pub crc-there : (eqb s own || eqb s 0) && t ≡ true → 2 ≤ length f
   crc-there h =
-      let l : 4 ≤ length f = four n c (length f) (sym et ∙ (both (eqb s own || eqb s 0) t (not-false ((eqb s own || eqb s 0) && t) h)).1) in
+      let l : 4 ≤ length f = four n c (length f) (sym et ∙ (both (eqb s own || eqb s 0) t h).1) in
       omega arith
 
-  pub heard-by-crc : not ((eqb s own || eqb s 0) && t) ≡ false → (r : Bool) → r ≡ crc_fits f → r ≡ is_heard own f
-  heard-by-crc h r e = e ∙ sym (heard-as ∙ ap (λ (x : Bool). x && crc_fits f) (not-false ((eqb s own || eqb s 0) && t) h))
+  pub heard-by-crc : (eqb s own || eqb s 0) && t ≡ true → (r : Bool) → r ≡ crc_fits f → r ≡ is_heard own f
+  heard-by-crc h r e = e ∙ sym (heard-as ∙ ap (λ (x : Bool). x && crc_fits f) h)
 
 -- ---- replies
 
@@ -170,17 +170,17 @@ module _ (own : ℕ) (m : List ℕ) (d : List ℤ) (b : List ℕ) where
   abbrev Call : Bool
   Call = leb 1 own && leb own 247 && leb 256 (length b)
 
-  pub by-9 : not Tables ≡ true → Fault 9 0 ≡ judge_answer own m d b
+  pub by-9 : Tables ≡ false → Fault 9 0 ≡ judge_answer own m d b
   unfolding judge_answer tables_fault
-  by-9 h = rw (not-true Tables h) refl
+  by-9 h = rw h refl
 
-  pub by_16 : not Tables ≡ false → Call ≡ false → Fault 16 0 ≡ judge_answer own m d b
+  pub by_16 : Tables ≡ true → Call ≡ false → Fault 16 0 ≡ judge_answer own m d b
   unfolding judge_answer tables_fault call_fault
-  by_16 h g = rw (not-false Tables h, g) refl
+  by_16 h g = rw (h, g) refl
 
-  pub fine : not Tables ≡ false → Call ≡ true → Fine ≡ judge_answer own m d b
+  pub fine : Tables ≡ true → Call ≡ true → Fine ≡ judge_answer own m d b
   unfolding judge_answer tables_fault call_fault
-  fine h g = rw (not-false Tables h, g) refl
+  fine h g = rw (h, g) refl
 
 -- ---- writes
 

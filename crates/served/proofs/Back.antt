@@ -1,20 +1,19 @@
 -- WRITTEN REGISTERS AND COILS READ BACK: read-back. Its statement is in specs/Served.antt. Assumes nothing.
-use Prim.Native.Nat.{ℕ, ◌+◌, ◌-◌, ◌*◌, ◌/◌, ◌%◌, ◌≤◌, ◌<◌}
-use mathlib.Core.Bool.{Bool, true, false, ◌||◌}
+use Prim.Native.Nat.{ℕ, ◌+◌, ◌-◌, ◌*◌, ◌/◌, ◌%◌, ◌<◌}
+use mathlib.Core.Bool.{true, false, ◌||◌}
 use mathlib.Core.List.{List, [], ◌∷◌, ◌++◌}
 use mathlib.Core.Logic.{◌⊎◌, inl, inr}
-use mathlib.Core.Path.{◌≡◌, refl, sym, ap, ap₂, subst, ◌∙◌}
+use mathlib.Core.Path.{◌≡◌, refl, sym, ap, ap₂, ◌∙◌}
 use native.Mathlib.Omega.{arith}
-use lib.Arith.{digits_div, digits_mod}
-use lib.Dec.{leb, eqb}
+use lib.Dec.{eqb}
 use lib.IntN.{ℤ, pos}
-use lib.ListN.{length, get_or, take, drop, set}
-use lib.Seq.{get_or-set_same, take_all, take-length}
-use borrow.Author.Tests.{leb-true, eqb-true, eq-eqb}
+use lib.ListN.{length, take, drop, set}
+use lib.Seq.{get_or-set_same, take_all}
+use borrow.Author.Tests.{eqb-true, eq-eqb}
 use Rattle.bits.proofs.Laws.{bit-back}
 use Rattle.ec20.proofs.NoFault.{passed, then-fine}
 use Rattle.ec20.proofs.Tests.{both, each, picked, one-small}
-use Rattle.ec20.specs.Basics.{pick, one_if}
+use Rattle.ec20.specs.Basics.{one_if}
 use Rattle.ec20.specs.Bits.{bit_at, with_bit}
 use Rattle.ec20.specs.File.{byte_at, u16_at}
 use Rattle.ec20.specs.Registers.{word_at}
@@ -23,7 +22,7 @@ use Rattle.modbus.specs.declared.Answered.TheVariants.{Reply}
 use Rattle.modbus.specs.Answer.{Answer, tables_fault, call_fault, judge_answer, replied, heard, answer_of}
 use Rattle.ec20.specs.Buffer.{sent}
 use Rattle.modbus.specs.Crc.{crc_of, with_crc}
-use Rattle.modbus.specs.Exceptions.{value_on, bytes_of, exception_of}
+use Rattle.modbus.specs.Exceptions.{value_on, bytes_of}
 use Rattle.modbus.specs.Frame.{write_coil, write_register, write_coils, write_registers, number_in, station_of, function_of, address_of, quantity_of, byte_count_of, is_short, is_long, length_fits, crc_fits, is_broadcast, is_heard}
 use Rattle.modbus.specs.Replies.{coil_bytes, register_bytes, reply_to}
 use Rattle.modbus.specs.Writes.{coils_taken, word_of, registers_taken, coils_after, registers_after}

@@ -2,15 +2,15 @@
 use Prim.Native.Nat.{ℕ, zero, suc, ◌+◌, ◌-◌, ◌*◌, ◌/◌, ◌%◌, ◌^◌, ◌≤◌, ◌<◌, min}
 use mathlib.Core.List.{List, [], ◌∷◌, ◌++◌}
 use mathlib.Core.Path.{◌≡◌, refl, sym, ap, ap₂, ◌∙◌}
-use native.Mathlib.Nat.{min-le_left, min-le_right}
+use native.Mathlib.Nat.{min-le_right}
 use native.Mathlib.Omega.{arith}
 use lib.Arith.{digits_div, digits_mod}
 use lib.IntN.{ℤ}
-use lib.ListN.{length, get_or, take, drop, length-drop}
+use lib.ListN.{length, take, drop, length-drop}
 use lib.Seq.{take-suc, get_or-drop}
 use Rattle.ec20.specs.Bits.{bit_at, packed}
 use Rattle.ec20.specs.File.{byte_at}
-use Rattle.ec20.specs.Numbers.{low, signed}
+use Rattle.ec20.specs.Numbers.{low}
 use Rattle.ec20.specs.Registers.{word_at}
 use Rattle.ints.proofs.TwosLaws.{low_signed}
 use Rattle.ec20.proofs.BufferLaws.{append_assoc}

@@ -1,11 +1,10 @@
 -- WHAT REQUESTS CHANGE: served. Its statement is in specs/Served.antt. Assumes nothing.
 use Prim.Native.Nat.{ℕ, ◌≤◌, ◌<◌}
-use mathlib.Core.Bool.{Bool, true, false}
+use mathlib.Core.Bool.{true}
 use mathlib.Core.List.{List}
 use mathlib.Core.Logic.{◌⊎◌, inl, inr}
-use mathlib.Core.Path.{◌≡◌, refl, sym, ap, subst, ◌∙◌}
+use mathlib.Core.Path.{◌≡◌, refl}
 use native.Mathlib.Omega.{arith}
-use lib.Dec.{eqb}
 use lib.IntN.{ℤ, pos}
 use lib.ListN.{length, length-set}
 use lib.Seq.{get_or-set_other}
@@ -15,7 +14,7 @@ use Rattle.modbus.proofs.Good.{range-fits}
 use Rattle.modbus.proofs.Lengths.{coils-kept, registers-kept}
 use Rattle.modbus.specs.declared.Answered.TheVariants.{Refused, Silent}
 use Rattle.modbus.specs.Answer.{Answer, replied, answer_of}
-use Rattle.modbus.specs.Exceptions.{is_of_coils, is_single, meant, range_fits, exception_of}
+use Rattle.modbus.specs.Exceptions.{is_of_coils, is_single, meant, exception_of}
 use Rattle.modbus.specs.Frame.{function_of, address_of, quantity_of, is_heard}
 use Rattle.modbus.specs.Writes.{coils_after, registers_after}
 use Rattle.served.specs.Served.{Reads, Writes, GoodWrite, Unchanged, Served}

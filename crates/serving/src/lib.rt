@@ -16,6 +16,9 @@ use ec20::Scanned;
 use engine::Ready;
 use memories::tables;
 use state::State;
+use std::fs::File;
+use std::random::RandomSource;
+use std::rt::{Clock, Files};
 use telling::report;
 use wanted::Wanted;
 
@@ -23,23 +26,24 @@ use wanted::Wanted;
 const TURNS: u64 = 4611686018427387904;
 
 // Turns until one of them is the last.
-fn turns(
+fn turns<'a>(
+    rt: &impl Clock,
     f: &[u8],
     p: Ready,
     goes: &[usize; 2000],
     image: &mut [u8; 16892],
     held: &mut [u8],
     w: Wanted,
-    begun: State,
+    begun: State<'a>,
     err: i32,
-) -> State
+) -> State<'a>
     requires made { Made f.now p }
     requires goes { Goes f.now p goes.now }
 {
     let mut s = begun;
     let mut k: u64 = 0;
     while k < TURNS {
-        s = turn::turn(f, p, goes, image, held, w, s, err);
+        s = turn::turn(rt, f, p, goes, image, held, w, s, err);
         if s.over {
             return s;
         }
@@ -49,8 +53,15 @@ fn turns(
 }
 
 // The memory file is replaced, and then it is told what happened.
-fn tell(call: &[u8], s: State, image: &[u8; 16892], out: i32, err: i32) -> Outcome {
-    if files::replace(text::word(call, 2), image, err) {
+fn tell(
+    rt: &(impl Files + RandomSource),
+    call: &[u8],
+    s: State<'_>,
+    image: &[u8; 16892],
+    out: i32,
+    err: i32,
+) -> Outcome {
+    if files::replace(rt, text::word(call, 2), image, err) {
         let to = texts::say(out, texts::SERVED, s.scans, s.requests, s.replies, s.silent);
         return results::answered(0, true, to, err);
     }
@@ -58,7 +69,8 @@ fn tell(call: &[u8], s: State, image: &[u8; 16892], out: i32, err: i32) -> Outco
 }
 
 // The line is opened, and served until the end.
-fn serve(
+fn serve<R: Files<File = File> + RandomSource + Clock>(
+    rt: &R,
     call: &[u8],
     f: &[u8],
     p: Ready,
@@ -71,25 +83,23 @@ fn serve(
     requires made { Made f.now p }
     requires goes { Goes f.now p goes.now }
 {
-    let device = files::open(text::word(call, 3), err);
-    if device < 0 {
+    let Some(device) = files::open(rt, text::word(call, 3), err) else {
         return results::not_tried();
-    }
-    let stop = os::open_read(text::word(call, 7));
+    };
+    let stop = files::open_read(rt, text::word(call, 7)).ok();
     let mut held = state::room();
     let s = turns(
+        rt,
         f,
         p,
         goes,
         image,
         &mut held,
         w,
-        state::begun(device, stop),
+        state::begun(rt, &device, stop.as_ref()),
         err,
     );
-    libc::close(device);
-    libc::close(stop);
-    tell(call, s, image, out, err)
+    tell(rt, call, s, image, out, err)
 }
 
 // 1 to 8 are told of the program file, word 1; 9 and 16 of the memory file, word 2, which has so many bytes.
@@ -109,7 +119,8 @@ fn refuse(
 }
 
 // After the first scan, by which the program and the memory file, of so many bytes, are judged; then the station is.
-fn judged(
+fn judged<R: Files<File = File> + RandomSource + Clock>(
+    rt: &R,
     call: &[u8],
     f: &[u8],
     p: Ready,
@@ -128,7 +139,7 @@ fn judged(
         Scanned::Refused { number, record } => refuse(call, f, number, record, size, out, err),
         _ => {
             if (1 <= w.station) & (w.station <= 247) {
-                return serve(call, f, p, goes, image, w, out, err);
+                return serve(rt, call, f, p, goes, image, w, out, err);
             }
             refuse(call, f, 16, 0, size, out, err)
         }
@@ -136,7 +147,8 @@ fn judged(
 }
 
 // The program file's bytes and the memory file's, of which there were so many.
-fn run_loaded(
+fn run_loaded<R: Files<File = File> + RandomSource + Clock>(
+    rt: &R,
     call: &[u8],
     f: &[u8],
     memory: &[u8; 65536],
@@ -150,20 +162,25 @@ fn run_loaded(
     let p = engine::make_ready(f);
     let goes = engine::look_up(f, p);
     let s = memory_scans::scan_ready(p, &goes, f, &mut image, size, 0, turn::BUDGET);
-    judged(call, f, p, &goes, s, &mut image, size, w, out, err)
+    judged(rt, call, f, p, &goes, s, &mut image, size, w, out, err)
 }
 
-pub fn run(call: &[u8], out: i32, err: i32) -> Outcome {
+pub fn run<R: Files<File = File> + RandomSource + Clock>(
+    rt: &R,
+    call: &[u8],
+    out: i32,
+    err: i32,
+) -> Outcome {
     let w = wanted::asked(call, err);
     if !w.good {
         return results::not_tried();
     }
     let mut file = io::large_buffer();
     let mut memory = io::large_buffer();
-    let s = scans::load(call, 2, err, &mut file, &mut memory);
+    let s = scans::load(rt, call, 2, err, &mut file, &mut memory);
     if !s.whole {
         return results::not_tried();
     }
     let n = s.program;
-    run_loaded(call, &file[..n], &memory, s.memory, w, out, err)
+    run_loaded(rt, call, &file[..n], &memory, s.memory, w, out, err)
 }

@@ -1,13 +1,16 @@
 // How far a slave is.
 ghost use Rattle.std.specs.Prelude.{◌≡◌, false, length};
 
-// device: the line; stop: the file in which a byte asks to end. Moments in milliseconds: when it began, up to when its scans have counted the time, when
+use std::fs::File;
+use std::rt::Clock;
+
+// device: the line; stop: the file in which a byte asks to end, if there is one. Moments in milliseconds: when it began, up to when its scans have counted the time, when
 // the last byte came, when it was last told how far it is. held: how many bytes came and are not answered yet; came: how many of them in this turn.
 // over: whether this turn was the last.
 #[derive(Clone, Copy)]
-pub struct State {
-    pub device: i32,
-    pub stop: i32,
+pub struct State<'a> {
+    pub device: &'a File,
+    pub stop: Option<&'a File>,
     pub begun: u64,
     pub counted: u64,
     pub heard: u64,
@@ -22,11 +25,11 @@ pub struct State {
 }
 
 // One scan was made. All four moments are the one that the clock tells.
-pub fn begun(device: i32, stop: i32) -> State
+pub fn begun<'a>(rt: &impl Clock, device: &'a File, stop: Option<&'a File>) -> State<'a>
     ensures device_value { (result.device ≡ device) × (result.stop ≡ stop) × (result.counted ≡ result.begun) × (result.heard ≡ result.begun) × (result.shown ≡ result.begun) }
     ensures held_value { (result.held ≡ 0) × (result.came ≡ 0) × (result.scans ≡ 1) × (result.requests ≡ 0) × (result.replies ≡ 0) × (result.silent ≡ 0) × (result.over ≡ false) }
 {
-    let now = clock::milliseconds();
+    let now = clock::milliseconds(rt);
     State {
         device,
         stop,

@@ -9,6 +9,10 @@ use engine::Ready;
 use memories::answers;
 use modbus::Answered;
 use serial::{held, times};
+use std::fs::File;
+use std::io::{IsTerminal, Read, Write};
+use std::os::unix::fs::FileExt;
+use std::rt::Clock;
 
 // The most steps that a scan of a slave may take, which is more than one without a budget may (document 02, (vi)).
 pub const BUDGET: u32 = 1_000_000;
@@ -26,20 +30,23 @@ fn is_late(w: Wanted, begun: u64, now: u64) -> bool {
 }
 
 // Whether it is asked to end.
-fn is_stopped(stop: i32) -> bool {
+fn is_stopped(stop: Option<&File>) -> bool {
     let mut one = [0u8; 1];
-    libc::pread(stop, &mut one, 0) > 0
+    match stop {
+        Some(file) => file.read_at(&mut one, 0).unwrap_or(0) > 0,
+        None => false,
+    }
 }
 
 // The program was accepted, so that no scan is refused; it was made ready once, so that none checks it again.
-fn scanned(
+fn scanned<'a>(
     f: &[u8],
     p: Ready,
     goes: &[usize; 2000],
     image: &mut [u8; 16892],
-    s0: State,
+    s0: State<'a>,
     moment: u64,
-) -> State
+) -> State<'a>
     requires made { Made f.now p }
     requires goes { Goes f.now p goes.now }
 {
@@ -52,22 +59,24 @@ fn scanned(
 }
 
 // What the line has is held with what came before. A line that cannot be read is hung up.
-fn read(held: &mut [u8], s0: State) -> State {
+fn read<'a>(rt: &impl Clock, held: &mut [u8], s0: State<'a>) -> State<'a> {
     let mut s = s0;
     let mut bytes = io::buffer();
-    let got = libc::read(s.device, &mut bytes);
-    let n = io::count(got, &bytes);
+    let mut device = s.device;
+    let got = device.read(&mut bytes);
+    let failed = got.is_err();
+    let n = got.unwrap_or(0);
     s.came = n;
     s.held = held::more(held, s.held, &bytes[..n]);
     if n > 0 {
-        s.heard = clock::milliseconds();
+        s.heard = clock::milliseconds(rt);
     }
-    s.over = got < 0;
+    s.over = failed;
     s
 }
 
 // The frame that the bytes held begin with, or 0. now: a moment before the line was read, so that nothing came until then.
-fn frame(held: &[u8], w: Wanted, s: State, now: u64) -> usize {
+fn frame(held: &[u8], w: Wanted, s: State<'_>, now: u64) -> usize {
     let n = s.held;
     if n > held.len() {
         return 0;
@@ -76,27 +85,28 @@ fn frame(held: &[u8], w: Wanted, s: State, now: u64) -> usize {
     held::frame(w.station as usize, &held[0..n], silence)
 }
 
-fn silent(s0: State) -> State {
+fn silent(s0: State<'_>) -> State<'_> {
     let mut s = s0;
     s.silent = one_more(s.silent);
     s
 }
 
 // The first n bytes of a reply. A line that does not take them is hung up.
-fn sent(reply: &[u8], n: usize, s0: State) -> State {
+fn sent<'a>(reply: &[u8], n: usize, s0: State<'a>) -> State<'a> {
     let mut s = s0;
     if n > reply.len() {
         return s;
     }
     s.replies = one_more(s.replies);
-    if !io::write_all(s.device, &reply[0..n]) {
+    let mut device = s.device;
+    if device.write_all(&reply[0..n]).is_err() {
         s.over = true;
     }
     s
 }
 
 // The frame is answered. The station was judged, so that no call is refused.
-fn answered(image: &mut [u8; 16892], frame: &[u8], w: Wanted, s0: State) -> State {
+fn answered<'a>(image: &mut [u8; 16892], frame: &[u8], w: Wanted, s0: State<'a>) -> State<'a> {
     let mut s = s0;
     s.requests = one_more(s.requests);
     let mut reply = state::reply();
@@ -107,7 +117,13 @@ fn answered(image: &mut [u8; 16892], frame: &[u8], w: Wanted, s0: State) -> Stat
 }
 
 // The frame is the first k bytes held, which are then held no more.
-fn taken(image: &mut [u8; 16892], held: &mut [u8], k: usize, w: Wanted, s0: State) -> State {
+fn taken<'a>(
+    image: &mut [u8; 16892],
+    held: &mut [u8],
+    k: usize,
+    w: Wanted,
+    s0: State<'a>,
+) -> State<'a> {
     if k > held.len() {
         return s0;
     }
@@ -118,21 +134,21 @@ fn taken(image: &mut [u8; 16892], held: &mut [u8], k: usize, w: Wanted, s0: Stat
 
 // Nothing is to be answered. Where nothing came, a moment is waited; but a line that has nothing and is no terminal any more is hung up, and what never was
 // one is at its end.
-fn rested(s0: State) -> State {
+fn rested<'a>(rt: &impl Clock, s0: State<'a>) -> State<'a> {
     let mut s = s0;
     if s.came > 0 {
         return s;
     }
-    if libc::isatty(s.device) == 0 {
+    if !s.device.is_terminal() {
         s.over = true;
         return s;
     }
-    clock::pause(1);
+    clock::pause(rt, 1);
     s
 }
 
 // How far it is, each second.
-fn shown(w: Wanted, s0: State, now: u64, err: i32) -> State {
+fn shown<'a>(w: Wanted, s0: State<'a>, now: u64, err: i32) -> State<'a> {
     let mut s = s0;
     if (w.told != 0) & (times::between(s.shown, now) >= 1000) {
         s.shown = now;
@@ -142,34 +158,42 @@ fn shown(w: Wanted, s0: State, now: u64, err: i32) -> State {
 }
 
 // After the line was read: the answer to a frame, or a rest.
-fn served(image: &mut [u8; 16892], held: &mut [u8], w: Wanted, s: State, now: u64) -> State {
+fn served<'a>(
+    rt: &impl Clock,
+    image: &mut [u8; 16892],
+    held: &mut [u8],
+    w: Wanted,
+    s: State<'a>,
+    now: u64,
+) -> State<'a> {
     let k = frame(held, w, s, now);
     if k > 0 {
         return taken(image, held, k, w, s);
     }
-    rested(s)
+    rested(rt, s)
 }
 
-pub fn turn(
+pub fn turn<'a>(
+    rt: &impl Clock,
     f: &[u8],
     p: Ready,
     goes: &[usize; 2000],
     image: &mut [u8; 16892],
     held: &mut [u8],
     w: Wanted,
-    s0: State,
+    s0: State<'a>,
     err: i32,
-) -> State
+) -> State<'a>
     requires made { Made f.now p }
     requires goes { Goes f.now p goes.now }
 {
-    let now = clock::milliseconds();
+    let now = clock::milliseconds(rt);
     let mut s = shown(w, s0, now, err);
     if is_late(w, s.begun, now) | is_stopped(s.stop) {
         s.over = true;
         return s;
     }
-    s = read(held, s);
-    s = served(image, held, w, s, now);
+    s = read(rt, held, s);
+    s = served(rt, image, held, w, s, now);
     scanned(f, p, goes, image, s, now)
 }

@@ -28,7 +28,7 @@ pub fn apart(a: &[u8; 16892], b: &[u8; 16892], w: Way) -> usize
     ensures { FirstApart a.now (image_of (exchange_in 16892 (block w.start w.length) w.place (plant_of b.now)).plant) result }
 {
     let mut back = tables::image();
-    bytes::copy(b, &mut back);
+    back.copy_from_slice(b);
     exchanges::in_image(&mut back, 16892, w);
     first_apart(a, &back)
 }

@@ -1,4 +1,4 @@
-// The commands over declarations of blocks: clashes and longer. Each is handed a call and two descriptors: `out` for the answer, `err` for what a refusal
+// The commands over declarations of blocks: clashes and longer. Each is handed the system, a call and two descriptors: `out` for the answer, `err` for what a refusal
 // means and what could not be tried. Neither changes a file.
 #![tactic(auto)]
 
@@ -10,6 +10,7 @@ ghost use Rattle.std.specs.Prelude.{◌≡◌, ◌||◌, ◌==◌};
 
 use calls::asked;
 use calls::results::Outcome;
+use std::rt::Files;
 
 // Whether the command is one of these.
 pub fn knows(command: usize) -> bool
@@ -18,9 +19,9 @@ pub fn knows(command: usize) -> bool
     (command == asked::CLASHES) | (command == asked::LONGER)
 }
 
-pub fn run(command: usize, call: &[u8], out: i32, err: i32) -> Outcome {
+pub fn run(rt: &impl Files, command: usize, call: &[u8], out: i32, err: i32) -> Outcome {
     if command == asked::LONGER {
-        return parts::run(call, out, err);
+        return parts::run(rt, call, out, err);
     }
-    lists::run(call, out, err)
+    lists::run(rt, call, out, err)
 }

@@ -5,6 +5,7 @@ use crate::shown;
 use calls::results::Outcome;
 use calls::{files, results, text, texts};
 use ec20::Verdict;
+use std::rt::Files;
 use telling::report;
 use unit_texts::Units;
 use units::Clashed;
@@ -85,9 +86,9 @@ fn run_loaded(call: &[u8], list: &[u8], file: &[u8], out: i32, err: i32) -> Outc
     judge(call, &list[..n], file, out, err)
 }
 
-pub fn run(call: &[u8], out: i32, err: i32) -> Outcome {
+pub fn run(rt: &impl Files, call: &[u8], out: i32, err: i32) -> Outcome {
     let mut list = io::large_buffer();
-    let units = files::load(text::word(call, 1), err, &mut list);
+    let units = files::load(rt, text::word(call, 1), err, &mut list);
     let n = units.n;
     if !units.whole {
         return results::not_tried();
@@ -96,7 +97,7 @@ pub fn run(call: &[u8], out: i32, err: i32) -> Outcome {
     if text::count(call) != 3 {
         return run_loaded(call, &list[..n], &file[..0], out, err);
     }
-    let program = files::load(text::word(call, 2), err, &mut file);
+    let program = files::load(rt, text::word(call, 2), err, &mut file);
     let m = program.n;
     if !program.whole {
         return results::not_tried();

@@ -8,9 +8,11 @@ mod lines;
 mod room;
 
 use calls::results::Outcome;
-use calls::{asked, text};
+use calls::{STDOUT_FILENO, asked, text};
 use check::same;
-use libc::STDOUT_FILENO;
+use std::fs::File;
+use std::random::RandomSource;
+use std::rt::{Clock, Files};
 
 // A descriptor that nothing has open, for the calls whose answer is to be lost.
 const CLOSED: i32 = 1000;
@@ -27,23 +29,23 @@ fn tell(o: Outcome) {
     }
 }
 
-// What the file of this name, `it` or `that`, is after the call. fd: the file that it was before.
-fn tell_file(name: &[u8], before: &[u8], after: &[u8], fd: i32) {
+// What the file of this name, `it` or `that`, is after the call. was: the file that it was before.
+fn tell_file<R: Files>(rt: &R, name: &[u8], before: &[u8], after: &[u8], was: Option<R::File>) {
     say(b", ");
     say(name);
-    if room::alike(name, before) {
+    if room::alike(rt, name, before) {
         say(b" as before");
-    } else if room::alike(name, after) {
+    } else if room::alike(rt, name, after) {
         say(b" as ");
         say(after);
-    } else if room::is_timed(name, after) {
+    } else if room::is_timed(rt, name, after) {
         say(b" as ");
         say(after);
         say(b" with leftovers");
     } else {
         say(b" is neither");
     }
-    if room::is_at(name, fd) {
+    if room::is_at(rt, name, was) {
         say(b", the same file");
     } else {
         say(b", a new file");
@@ -51,90 +53,97 @@ fn tell_file(name: &[u8], before: &[u8], after: &[u8], fd: i32) {
 }
 
 // The command of a call, as the program ninhalto chooses it.
-fn chosen(call: &[u8], out: i32, err: i32) -> Outcome {
+fn chosen<R: Files<File = File> + RandomSource + Clock>(
+    rt: &R,
+    call: &[u8],
+    out: i32,
+    err: i32,
+) -> Outcome {
     let command = asked::command(call);
     if commands::scans(command) {
-        return commands::run(command, call, out, err);
+        return commands::run(rt, command, call, out, err);
     }
     if command == asked::SLAVE {
-        return serving::run(call, out, err);
+        return serving::run(rt, call, out, err);
     }
     if unit_commands::knows(command) {
-        return unit_commands::run(command, call, out, err);
+        return unit_commands::run(rt, command, call, out, err);
     }
     if job_commands::knows(command) {
-        return job_commands::run(call, out, err);
+        return job_commands::run(rt, call, out, err);
     }
-    file_commands::run(command, call, out, err)
+    file_commands::run(rt, command, call, out, err)
 }
 
 // A call over a copy of a file.
-fn run_over(before: &[u8], after: &[u8], call: &[u8]) {
-    room::put(before, b"it");
-    let fd = os::open_append(b"it");
-    tell(chosen(call, STDOUT_FILENO, STDOUT_FILENO));
-    tell_file(b"it", before, after, fd);
-    libc::close(fd);
+fn run_over<R: Files<File = File> + RandomSource + Clock>(
+    rt: &R,
+    before: &[u8],
+    after: &[u8],
+    call: &[u8],
+) {
+    room::put(rt, before, b"it");
+    let was = room::open_append(rt, "it");
+    tell(chosen(rt, call, STDOUT_FILENO, STDOUT_FILENO));
+    tell_file(rt, b"it", before, after, was);
 }
 
 // A call over copies of two files, which the words 1 to 4 of the line name.
-fn run_both(line: &[u8]) {
-    room::put(text::word(line, 1), b"it");
-    room::put(text::word(line, 3), b"that");
-    let it = os::open_append(b"it");
-    let that = os::open_append(b"that");
-    tell(chosen(text::rest(line, 5), STDOUT_FILENO, STDOUT_FILENO));
-    tell_file(b"it", text::word(line, 1), text::word(line, 2), it);
-    tell_file(b"that", text::word(line, 3), text::word(line, 4), that);
-    libc::close(it);
-    libc::close(that);
+fn run_both<R: Files<File = File> + RandomSource + Clock>(rt: &R, line: &[u8]) {
+    room::put(rt, text::word(line, 1), b"it");
+    room::put(rt, text::word(line, 3), b"that");
+    let it = room::open_append(rt, "it");
+    let that = room::open_append(rt, "that");
+    tell(chosen(rt, text::rest(line, 5), STDOUT_FILENO, STDOUT_FILENO));
+    tell_file(rt, b"it", text::word(line, 1), text::word(line, 2), it);
+    tell_file(rt, b"that", text::word(line, 3), text::word(line, 4), that);
 }
 
 // The line as a call.
-fn run(line: &[u8]) {
+fn run<R: Files<File = File> + RandomSource + Clock>(rt: &R, line: &[u8]) {
     let before = text::word(line, 0);
     let call = text::rest(line, 2);
     if same(before, b"-") {
-        tell(chosen(call, STDOUT_FILENO, STDOUT_FILENO));
+        tell(chosen(rt, call, STDOUT_FILENO, STDOUT_FILENO));
     } else if same(before, b"closed") {
-        tell(chosen(call, CLOSED, STDOUT_FILENO));
+        tell(chosen(rt, call, CLOSED, STDOUT_FILENO));
     } else if same(before, b"both") {
-        run_both(line);
+        run_both(rt, line);
     } else {
-        run_over(before, text::word(line, 1), call);
+        run_over(rt, before, text::word(line, 1), call);
     }
     say(b"\n");
 }
 
 // The call is the first n bytes; a longer line than the buffer is none.
-fn run_part(call: &[u8], n: usize) {
+fn run_part<R: Files<File = File> + RandomSource + Clock>(rt: &R, call: &[u8], n: usize) {
     if n < call.len() {
-        run(&call[0..n + 1]);
+        run(rt, &call[0..n + 1]);
     }
 }
 
 // A line: a remark, or a call, which is told first.
-fn turn(text: &[u8]) {
+fn turn<R: Files<File = File> + RandomSource + Clock>(rt: &R, text: &[u8]) {
     say(text);
     say(b"\n");
     if lines::is_call(text) {
         let mut call = io::buffer();
         lines::to_call(text, &mut call);
-        run_part(&call, text.len());
+        run_part(rt, &call, text.len());
     }
 }
 
-fn each(list: &[u8]) {
+fn each<R: Files<File = File> + RandomSource + Clock>(rt: &R, list: &[u8]) {
     let mut at: usize = 0;
     while at < list.len() {
-        let end = bytes::scan::find(list, at, list.len(), b'\n');
-        turn(&list[at..end]);
+        let end = text::find(list, at, b'\n');
+        turn(rt, &list[at..end]);
         at = end + 1;
     }
 }
 
-fn main() {
+fn main(rt: HostRuntime) {
     let mut list = io::large_buffer();
-    let n = room::load(b"calls", &mut list);
-    each(&list[..n]);
+    let n = room::load(&rt, b"calls", &mut list);
+    each(&rt, &list[..n]);
 }

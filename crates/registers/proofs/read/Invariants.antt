@@ -1,16 +1,9 @@
 -- The invariant: the reply has the first i registers from byte 3 on, and keeps its length. Assumes nothing.
-use Prim.Native.Nat.{ℕ, ◌+◌, ◌≤◌, ◌-◌}
-use lib.ListN.{length, length-set}
-use mathlib.Core.Path.{◌≡◌, refl, ap, ◌∙◌}
-use mir.Syntax.{w16}
-use native.Mathlib.Omega.{arith}
-use borrow.Author.Rules.{rules}
-use Rattle.ec20.specs.Numbers.{low}
-use Rattle.ec20.specs.Registers.{word_at}
-use Rattle.ints.proofs.Parts.{said}
+use Prim.Native.Nat.{◌≤◌, ◌-◌}
+use lib.ListN.{length}
+use mathlib.Core.Path.{◌≡◌}
 use Rattle.ec20.specs.Buffer.{over}
 use Rattle.modbus.specs.Replies.{register_bytes}
-use Rattle.registers.proofs.Steps.{read_none, read_more, length_two}
 use Rattle.registers.proofs.read.Given as goal
 
 abbrev pub invariant-loop-i : goal.invariant-loop-i

@@ -1,9 +1,8 @@
-use Prim.Native.Nat.{ℕ, ◌≤◌, ◌-◌}
-use lib.ListN.{length, length-set}
-use mathlib.Core.Path.{◌≡◌, refl, ap, ◌∙◌}
+use Prim.Native.Nat.{ℕ}
+use lib.ListN.{length-set}
+use mathlib.Core.Path.{refl, ap, ◌∙◌}
 use mir.Syntax.{w16}
 use native.Mathlib.Omega.{arith}
-use borrow.Author.Rules.{rules}
 use Rattle.ints.proofs.Parts.{said}
 use Rattle.modbus.specs.Writes.{word_of, registers_taken}
 use Rattle.registers.proofs.Steps.{write-more, number_is}

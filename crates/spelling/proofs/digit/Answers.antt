@@ -3,7 +3,6 @@ use Prim.Native.Nat.{◌<◌}
 use native.Mathlib.Omega.{arith}
 use lib.ListN.{length}
 use Rattle.spelling.proofs.Laws.{stands, digit_low, digit-high, digit-more}
-use borrow.Author.Rules.{rules}
 use Rattle.spelling.proofs.digit.Goals as goal
 
 pub returns-then-b-lt48 : goal.returns-then-b-lt48
@@ -14,11 +13,9 @@ returns-then-b-gt57 c = digit-high _ _ _ c.byte_in-b.ensures c.if-b-lt48.false c
 
 pub overflow_add-result-2 : goal.overflow_add-result-2
 overflow_add-result-2 c =
-    let b = c.before.before.before.before in
-    let h : b.before.before.args.d.next < length b.before.before.args.s.now = stands b.before.before.args.s.now _ _ b.byte-in.ensures (omega arith) in
+    let h : c.args.d.next < length c.args.s.now = stands c.args.s.now _ _ c.byte_in-b.ensures (omega arith) in
     omega arith
 
 pub returns : goal.returns
 returns c =
-    let e = c.before.before in
-    digit-more _ _ _ e.before.before.byte-in.ensures e.before.if1.false e.if2.false
+    digit-more _ _ _ c.byte_in-b.ensures c.if-b-lt48.false c.if-b-gt57.false

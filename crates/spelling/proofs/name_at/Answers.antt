@@ -1,10 +1,6 @@
-use Prim.Native.Nat.{ℕ, ◌+◌, ◌-◌, ◌<◌, ◌≤◌}
-use mathlib.Core.Path.{◌≡◌}
 use native.Mathlib.Decide.{ℕ_discrete}
 use native.Mathlib.Omega.{arith}
 use Rattle.spelling.proofs.Laws.{name-past, name-broken, name-whole}
-use Rattle.units.specs.Spelling.{byte_in}
-use borrow.Author.Rules.{rules}
 use Rattle.spelling.proofs.name_at.Goals as goal
 
 pub returns-then-s-from : goal.returns-then-s-from

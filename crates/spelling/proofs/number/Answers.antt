@@ -1,11 +1,9 @@
-use Prim.Native.Nat.{◌≤◌, ◌-◌}
 use mathlib.Core.Bool.{true, false}
-use mathlib.Core.Path.{◌≡◌, refl, sym, subst}
+use mathlib.Core.Path.{refl, sym, subst}
 use native.Mathlib.Omega.{arith}
 use Rattle.spelling.proofs.Laws.{digits-fit, digits-next, digits_more, number_is, number_in}
 use Rattle.spelling.specs.Bounds.{NumberIn}
 use Rattle.units.specs.Spelling.{digits_of}
-use borrow.Author.Rules.{rules}
 use Rattle.spelling.proofs.number.Goals as goal
 
 pub loop-k-init : goal.loop-k-init
@@ -23,11 +21,9 @@ overflow_sub-d c = rw c.loop-k.invariant.1 (digits-next _ _ _).0
 
 pub returns-then-d-from : goal.returns-then-d-from
 returns-then-d-from c =
-    let b = c.before.before.before.before in
-    let l = b.before.before.loop in record { value = number_is _ _ _ _ _ _ l.invariant.0 b.before.loop-test.false l.invariant.1 b.byte-in.ensures true c.if-d-from.true; number_in = tt }
+    let l = c.loop-k in record { value = number_is _ _ _ _ _ _ l.invariant.0 c.loop-k-test.false l.invariant.1 c.byte_in-zero.ensures true c.if-d-from.true; number_in = tt }
 
 pub returns : goal.returns
 returns c =
-    let b = c.before.before.before.before in
-    let l = b.before.before.loop in
-    let e = number_is _ _ _ _ _ _ l.invariant.0 b.before.loop-test.false l.invariant.1 b.byte-in.ensures false c.if-d-from.false in record { value = e; number_in = subst (NumberIn _ _) (sym e) (number_in _ _ _) }
+    let l = c.loop-k in
+    let e = number_is _ _ _ _ _ _ l.invariant.0 c.loop-k-test.false l.invariant.1 c.byte_in-zero.ensures false c.if-d-from.false in record { value = e; number_in = subst (NumberIn _ _) (sym e) (number_in _ _ _) }

@@ -1,0 +1,10 @@
+-- What the answer ensures, or 9. Assumes nothing.
+use mathlib.Core.Path.{refl}
+use borrow.Author.Tests.{eq-eqb, ne_eqb}
+use Rattle.memories.proofs.answers.in_tables.Goals as goal
+
+pub returns-then-size-eq16892 : goal.returns-then-size-eq16892
+returns-then-size-eq16892 c = rw (eq-eqb c.args.size 16892 c.if-size-eq16892.true) c.answer.ensures
+
+pub returns : goal.returns
+returns c = rw (ne_eqb c.args.size 16892 c.if-size-eq16892.false) refl

@@ -1,0 +1,6 @@
+use mathlib.Core.Path.{refl}
+use borrow.Author.Rules.{rules}
+use Rattle.splits.proofs.is_split.Goals as goal
+
+pub returns : goal.returns
+returns c = rw (c.some_partly.ensures, c.row_in.ensures) refl

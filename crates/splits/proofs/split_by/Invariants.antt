@@ -1,0 +1,20 @@
+-- The loop's invariant: the search from record k on finds what the whole search finds.
+use Prim.Native.Nat.{ℕ, ◌+◌, ◌*◌, ◌-◌, ◌≤◌}
+use mathlib.Core.Path.{◌≡◌, refl, sym, ap, ◌∙◌}
+use native.Mathlib.Nat.{sub-zero}
+use native.Mathlib.Omega.{arith}
+use Rattle.ec20.specs.Basics.{first_at, refused_at}
+use Rattle.ec20.specs.File.{record_from}
+use Rattle.ec20.specs.Move.{block, partly, split_fault}
+use Rattle.ec20.specs.UseMap.{record_has}
+use Rattle.labels.proofs.Laws.{passes, fails, none}
+use borrow.Author.Rules.{rules}
+use Rattle.splits.proofs.split_by.Given as goal
+
+abbrev pub invariant-loop-k : goal.invariant-loop-k
+invariant-loop-k l =
+    (l.k ≤ l.count)
+    × (first_at (λ (j : ℕ). record_has (partly (block l.start l.n)) (record_from l.f (l.first + 20 * j))) 0 l.count ≡ first_at (λ (j : ℕ). record_has (partly (block l.start l.n)) (record_from l.f (l.first + 20 * j))) l.k (l.count - l.k))
+
+abbrev pub decreases-loop-k : goal.decreases-loop-k
+decreases-loop-k l = l.count - l.k
