@@ -5,8 +5,8 @@ use Rattle.host.proofs.clash_lists.told.Goals as goal
 
 pub returns-in-Refused : goal.returns-in-Refused
 unfolding told_by_clashes
-returns-in-Refused c = rw c.in-Refused.is (refl, refl)
+returns-in-Refused c = rw c.in-Refused.is (record { number_after = refl; count_after = refl })
 
 pub returns-in-Clashes : goal.returns-in-Clashes
 unfolding told_by_clashes
-returns-in-Clashes c = rw c.in-Clashes.is (refl, refl)
+returns-in-Clashes c = rw c.in-Clashes.is (record { number_after = refl; count_after = refl })

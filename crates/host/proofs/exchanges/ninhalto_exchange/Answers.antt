@@ -5,8 +5,8 @@ use Rattle.host.proofs.exchanges.ninhalto_exchange.Goals as goal
 
 pub returns-in-Done : goal.returns-in-Done
 unfolding told_by_exchange
-returns-in-Done c = exchanged c.exchange.ensures c.in-Done.is
+returns-in-Done c = let t = exchanged c.exchange.ensures c.in-Done.is in record { d_after = t.0; number_after = t.1.0; at_after = t.1.1 }
 
 pub returns-in-Refused : goal.returns-in-Refused
 unfolding told_by_exchange
-returns-in-Refused c = exchanged c.exchange.ensures c.in-Refused.is
+returns-in-Refused c = let t = exchanged c.exchange.ensures c.in-Refused.is in record { d_after = t.0; number_after = t.1.0; at_after = t.1.1 }

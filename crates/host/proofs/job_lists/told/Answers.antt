@@ -5,8 +5,8 @@ use Rattle.host.proofs.job_lists.told.Goals as goal
 
 pub returns-in-Refused : goal.returns-in-Refused
 unfolding told_by_job
-returns-in-Refused c = rw c.in-Refused.is (refl, (refl, (refl, refl)))
+returns-in-Refused c = rw c.in-Refused.is (record { number_after = refl; at_after = refl; line_after = refl; other_after = refl })
 
 pub returns-in-Done : goal.returns-in-Done
 unfolding told_by_job
-returns-in-Done c = rw c.in-Done.is (refl, (refl, (refl, refl)))
+returns-in-Done c = rw c.in-Done.is (record { number_after = refl; at_after = refl; line_after = refl; other_after = refl })

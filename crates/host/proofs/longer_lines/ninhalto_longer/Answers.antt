@@ -2,4 +2,4 @@
 use Rattle.host.proofs.longer_lines.ninhalto_longer.Goals as goal
 
 pub returns : goal.returns
-returns c = c.which-p.ensures.text_value
+returns c = record { text_after = c.which-p.ensures.text_value.0; size_after = c.which-p.ensures.text_value.1 }

@@ -5,8 +5,8 @@ use Rattle.host.proofs.moves.ninhalto_move.Goals as goal
 
 pub returns-in-To : goal.returns-in-To
 unfolding told_by_move
-returns-in-To c = moved c.move_block.ensures c.in-To.is
+returns-in-To c = let t = moved c.move_block.ensures c.in-To.is in record { f_after = t.0; number_after = t.1.0; at_after = t.1.1.0; place_after = t.1.1.1 }
 
 pub returns-in-Refused : goal.returns-in-Refused
 unfolding told_by_move
-returns-in-Refused c = moved c.move_block.ensures c.in-Refused.is
+returns-in-Refused c = let t = moved c.move_block.ensures c.in-Refused.is in record { f_after = t.0; number_after = t.1.0; at_after = t.1.1.0; place_after = t.1.1.1 }

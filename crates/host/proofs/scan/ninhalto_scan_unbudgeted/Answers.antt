@@ -3,4 +3,4 @@ use Rattle.host.proofs.SevenLaws.{told_of}
 use Rattle.host.proofs.scan.ninhalto_scan_unbudgeted.Goals as goal
 
 pub returns : goal.returns
-returns c = told_of c.scan_unbudgeted.ensures c.seven.ensures
+returns c = let t = told_of c.scan_unbudgeted.ensures c.seven.ensures in record { rest_after = t.0; told_after = t.1 }
