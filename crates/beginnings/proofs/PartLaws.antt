@@ -4,6 +4,10 @@ use lib.Seq.{take-length}
 use Rattle.ec20.specs.Move.{Block}
 use Rattle.turns.specs.Turns.{MovedTo}
 
+-- all of a file over the start of a buffer
+pub copied-over : (old z : List ℕ) {new : List ℕ} → new ≡ old → new ++ drop (length old) z ≡ take (length old) old ++ drop (length old) z
+copied-over old z e = ap (λ (x : List ℕ). x ++ drop (length old) z) (e ∙ sym (take-length old))
+
 -- all of a file copied to the start of a buffer, and read there
 pub copied-part : (old z : List ℕ) {new : List ℕ} → new ≡ take (length old) old ++ drop (length old) z → take (length old - 0) new ≡ old
 copied-part old z {new} e =
