@@ -1,27 +1,25 @@
 -- Each refusal at least once, on a small file, and the order in which they are told. Assumes nothing.
 use mathlib.Core.Path.{◌≡◌, refl}
-use mathlib.Core.Bool.{Bool, true, false}
+use mathlib.Core.Bool.{true}
 use mathlib.Core.List.{List, [], ◌∷◌, ◌++◌}
-use Prim.Native.Nat.{ℕ, ◌+◌, ◌*◌, ◌-◌, ◌^◌}
-use lib.ListN.{replicate, get_or, set, drop, take}
-use lib.IntN.{ℤ, pos, negsuc, neg_ℤ}
-use Rattle.ec20.specs.declared.Verdict.{Verdict}
+use Prim.Native.Nat.{ℕ, ◌+◌, ◌^◌}
+use lib.ListN.{replicate, drop}
+use lib.IntN.{pos}
 use Rattle.ec20.specs.declared.Verdict.TheVariants.{Accepted, Refused}
 use Rattle.ec20.specs.declared.Scanned.TheVariants.{Ended, Refused as NotScanned}
 use Rattle.ec20.specs.declared.Moved.TheVariants.{To, Refused as NotMoved}
 use Rattle.ec20.specs.declared.Exchanged.TheVariants.{Done, Refused as NotExchanged}
-use Rattle.ec20.specs.declared.Mapped.{Mapped}
 use Rattle.ec20.specs.File.{framed}
 use Rattle.ec20.specs.Check.{check_of}
 use Rattle.ec20.specs.Plant.{Plant, plant}
 use Rattle.ec20.specs.Scan.{scan, scan_of}
-use Rattle.ec20.specs.Memory.{Memory, memory, with_d, with_sm, with_m}
+use Rattle.ec20.specs.Memory.{Memory, memory, with_d, with_sm}
 use Rattle.ec20.specs.UseMap.{use_map_of}
 use Rattle.ec20.specs.Move.{block, pool, move, move_of}
 use Rattle.ec20.specs.Exchange.{exchange_of}
 use Rattle.ec20.specs.Written.{le16, le32}
 use Rattle.ec20.proofs.Computing.{computing}
-use Rattle.ec20.proofs.Files.{operand, none, K, K-, X, Y, M, SM, T, D, L, KM, KX, KY, r0, r1, r2, r3, file, trailer, alone, blank, still}
+use Rattle.ec20.proofs.Files.{operand, K, K-, X, Y, M, SM, T, D, L, KM, KX, KY, r0, r1, r2, r3, file, trailer, alone, blank, still}
 
 -- the shortest program, END alone: 28 bytes
 abbrev shortest : List ℕ

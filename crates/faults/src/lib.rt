@@ -8,7 +8,7 @@ ghost use Rattle.ec20.specs.Numbers.{half, between, signed};
 ghost use Rattle.ec20.specs.Operands.{in_range, one_of, constant_in, group_in, words_in, is_unused, is_bit_read, is_bit_written, is_source, is_target, allowed, in_work, operands_ok, target_in_work, fault_of, fault_in, first_bad};
 ghost use Rattle.ec20.specs.Roles.{place};
 ghost use Rattle.instructions.specs.Cells.{cells};
-ghost use Rattle.records.specs.Ranges.{Small, SmallRec};
+ghost use Rattle.records.specs.Ranges.{Small, SmallRec, Held};
 
 use ec20::{Judged, Operand, Place, Rec, Row};
 
@@ -277,7 +277,7 @@ fn fault_in(rows: &[[u8; 11]; 56], r: Rec) -> usize
 }
 
 // The first of the records that breaks 2, 3 or 4, by the table. No trailer need follow them.
-pub fn first_bad(rows: &[[u8; 11]; 56], f: &[u8], first: usize, count: usize) -> Judged
+pub fn first_bad_among(rows: &[[u8; 11]; 56], f: &[u8], first: usize, count: usize) -> Judged
     requires rows_value { rows.now ≡ cells }
     requires count_in_bounds { first + 20 * count ≤ length f.now }
     ensures { result ≡ first_bad ec20 (records_from f.now first count) }
@@ -291,4 +291,13 @@ pub fn first_bad(rows: &[[u8; 11]; 56], f: &[u8], first: usize, count: usize) ->
         k += 1;
     }
     Judged::Fine
+}
+
+// The first of the records that breaks 2, 3 or 4, by the table.
+pub fn first_bad(rows: &[[u8; 11]; 56], f: &[u8], first: usize, count: usize) -> Judged
+    requires rows_value { rows.now ≡ cells }
+    requires held { Held (length f.now) first count }
+    ensures { result ≡ first_bad ec20 (records_from f.now first count) }
+{
+    first_bad_among(rows, f, first, count)
 }

@@ -1,5 +1,7 @@
 // The leftovers of the timers, a table of two bytes: first the milliseconds that the 10 ms timers have not counted yet, then those of the 100 ms
 // timers. Whether a table is one, and what a scan of so many milliseconds makes of it.
+#![tactic(auto)]
+
 ghost use Rattle.std.specs.Prelude.{◌≤◌, true, ◌≡◌};
 ghost use Rattle.ec20.specs.Plant.{leftovers_fit, units_in, rest_after};
 ghost use Rattle.ec20.specs.Timers.{Few};

@@ -2,11 +2,11 @@
 use Prim.Native.Nat.{ℕ}
 use mathlib.Core.Bool.{Bool}
 use mathlib.Core.List.{List}
-use mathlib.Core.Path.{◌≡◌, refl, sym, ap, subst, ◌∙◌}
+use mathlib.Core.Path.{◌≡◌, sym, ap, subst, ◌∙◌}
 use lib.IntN.{ℤ}
 use lib.ListN.{length}
 use Rattle.ec20.specs.Devices.{ec20}
-use Rattle.ec20.specs.Memory.{memory, with_d}
+use Rattle.ec20.specs.Memory.{memory}
 use Rattle.ec20.specs.Plant.{Plant, plant}
 use Rattle.image.proofs.Inverse.{plant-sizes}
 use Rattle.image.specs.Image.{plant_of, image_of, Sizes}

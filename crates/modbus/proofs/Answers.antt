@@ -1,6 +1,6 @@
 -- The examples of the application protocol (6.1, 6.3, 6.5, 6.6, 6.11, 6.12) and of its exceptions, answered by station 17. Assumes nothing.
 use Prim.Native.Nat.{ℕ}
-use mathlib.Core.List.{List, [], ◌∷◌, ◌++◌}
+use mathlib.Core.List.{List, [], ◌∷◌}
 use mathlib.Core.Path.{◌≡◌, refl}
 use lib.IntN.{ℤ, pos, negsuc}
 use lib.ListN.{get_or, set, take, replicate}

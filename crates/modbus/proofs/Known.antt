@@ -1,8 +1,7 @@
 -- Frames whose CRC is published, computed. Assumes nothing.
-use Prim.Native.Nat.{ℕ}
-use mathlib.Core.List.{List, [], ◌∷◌}
+use mathlib.Core.List.{[], ◌∷◌}
 use mathlib.Core.Path.{◌≡◌, refl}
-use Rattle.modbus.specs.Crc.{crc_of, with_crc}
+use Rattle.modbus.specs.Crc.{with_crc}
 use Rattle.modbus.proofs.Computing.{requests}
 
 -- the serial line document, 6.2.2: the CRC 1241 hexadecimal is sent as 41, 12; station 2, function 7

@@ -6,8 +6,6 @@ use native.Mathlib.Omega.{arith}
 use lib.IntN.{ℤ}
 use lib.ListN.{length, length-append, length-set}
 use Rattle.ec20.specs.Bits.{with_bit}
-use Rattle.ec20.specs.Registers.{word_at}
-use Rattle.ec20.specs.Numbers.{low}
 use Rattle.modbus.specs.Replies.{coil_byte, coil_bytes, register_bytes}
 use Rattle.modbus.specs.Writes.{coils_taken, registers_taken}
 

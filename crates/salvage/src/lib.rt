@@ -21,7 +21,7 @@ fn passes(rows: &[[u8; 11]; 56], t: &[u8], i: usize) -> bool
     requires i_in_bounds { i + 20 ≤ length t.now }
     ensures { result ≡ pass ec20 (record_from t.now i) }
 {
-    match faults::first_bad(rows, t, i, 1) {
+    match faults::first_bad_among(rows, t, i, 1) {
         Judged::Fault(n, _) => n == 4,
         Judged::Fine => true,
     }

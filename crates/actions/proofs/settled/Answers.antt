@@ -1,5 +1,4 @@
 use borrow.Author.Tests.{eq-eqb, ne_eqb}
-use borrow.Author.Rules.{rules}
 use Rattle.actions.proofs.settled.Goals as goal
 
 pub returns-then-e-ne0 : goal.returns-then-e-ne0

@@ -1,6 +1,4 @@
 use mathlib.Core.Path.{sym, ◌∙◌}
-use borrow.Author.Rules.{rules}
-use borrow.Author.Tests.{not-true, not-false}
 use Rattle.actions.proofs.Laws.{word-off, word_on}
 use Rattle.outcomes.proofs.Numbers.{is-16, not_16}
 use Rattle.actions.proofs.word.Goals as goal

@@ -11,7 +11,6 @@ use Rattle.ec20.specs.Numbers.{wrap}
 use Rattle.ec20.specs.Words.{value}
 use Rattle.ints.proofs.Parts.{said}
 use Rattle.arith.proofs.Exact.{difference-near, near_fits}
-use borrow.Author.Rules.{rules}
 use Rattle.arith.proofs.dec.Goals as goal
 
 near : (c : goal.Start) → mag (c.args.a -ℤ pos 1) < c.args.h + c.args.h

@@ -9,7 +9,6 @@ use Rattle.ec20.specs.Numbers.{wrap, is_zero}
 use Rattle.ec20.specs.Words.{div_of}
 use Rattle.ints.proofs.Parts.{said}
 use Rattle.arith.proofs.Exact.{near_fits, quotient-near}
-use borrow.Author.Rules.{rules}
 use Rattle.arith.proofs.div.Goals as goal
 
 -- what the test says of the divisor

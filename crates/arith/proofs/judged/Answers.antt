@@ -1,6 +1,5 @@
 -- Each field is what the function that makes it says. Assumes nothing.
 use mir.Facts.{to_z-of_z}
-use borrow.Author.Rules.{rules}
 use Rattle.arith.proofs.judged.Goals as goal
 
 pub returns : goal.returns

@@ -8,7 +8,6 @@ use Rattle.ec20.specs.Numbers.{wrap}
 use Rattle.ec20.specs.Words.{value}
 use Rattle.ints.proofs.Parts.{said}
 use Rattle.arith.proofs.Exact.{product-fits}
-use borrow.Author.Rules.{rules}
 use Rattle.arith.proofs.mul.Goals as goal
 
 exact-2 : (c : goal.After-stored-2) → to_z w64 (of_z w64 c.times-z.result) ≡ c.args.a *ℤ c.args.b

@@ -7,7 +7,6 @@ use Rattle.ec20.specs.Numbers.{is_lowest}
 use Rattle.ec20.specs.Words.{neg_of}
 use Rattle.ints.proofs.Parts.{said}
 use Rattle.arith.proofs.Exact.{opposite-fits}
-use borrow.Author.Rules.{rules}
 use Rattle.arith.proofs.neg.Goals as goal
 
 -- what the test says of a

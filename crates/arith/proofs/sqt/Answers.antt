@@ -6,7 +6,6 @@ use lib.Signed.{lt_z, mag}
 use mir.Facts.{to_z-of_z}
 use Rattle.ec20.specs.Numbers.{root_of}
 use Rattle.ec20.specs.Words.{sqt_of, rooted}
-use borrow.Author.Rules.{rules}
 use Rattle.arith.proofs.sqt.Goals as goal
 
 -- what the test says of a, and what is taken of it

@@ -5,7 +5,6 @@ use mir.Facts.{to_z-of_z}
 use Rattle.ec20.specs.Numbers.{wrap, is_zero, is_above, is_below}
 use Rattle.ec20.specs.Words.{sum_of}
 use Rattle.ints.proofs.Parts.{said}
-use borrow.Author.Rules.{rules}
 use Rattle.arith.proofs.sum.Goals as goal
 
 pub returns : goal.returns

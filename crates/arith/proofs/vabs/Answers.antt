@@ -8,7 +8,6 @@ use Rattle.ec20.specs.Numbers.{is_lowest}
 use Rattle.ec20.specs.Words.{vabs_of}
 use Rattle.ints.proofs.Parts.{said, not_neg}
 use Rattle.arith.proofs.Exact.{opposite-fits, size-neg}
-use borrow.Author.Rules.{rules}
 use Rattle.arith.proofs.vabs.Goals as goal
 
 -- what the tests say of a

@@ -6,7 +6,6 @@ use mir.Syntax.{w64}
 use Rattle.ec20.specs.Words.{rooted}
 use Rattle.ints.proofs.Parts.{said}
 use Rattle.arith.proofs.Roots.{root-law, root-small}
-use borrow.Author.Rules.{rules}
 use Rattle.arith.proofs.whole_root.Goals as goal
 
 square : (c : goal.After-root-r) → c.root-r.result * c.root-r.result ≤ c.args.n

@@ -5,7 +5,6 @@ use native.Mathlib.Omega.{arith}
 use lib.ListN.{get_or, get_or-eq_default}
 use lib.Bits.{and_mask, mask_lt}
 use Rattle.ec20.specs.Bits.{bit_at}
-use borrow.Author.Rules.{rules}
 use Rattle.bits.proofs.bit_at.Goals as goal
 
 pub overflow_cast-result : goal.overflow_cast-result

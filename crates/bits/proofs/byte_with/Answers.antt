@@ -1,6 +1,5 @@
 -- The byte without its bit j, and with b there. Assumes nothing.
 use native.Mathlib.Omega.{arith}
-use borrow.Author.Rules.{rules}
 use Rattle.bits.proofs.Steps.{byte-lt, byte-code, bit-taken}
 use Rattle.bits.proofs.byte_with.Goals as goal
 

@@ -1,10 +1,7 @@
 -- The invariant: v is the number that the bytes passed make. Assumes nothing.
-use mathlib.Core.Logic.{⊎_elim}
-use mathlib.Core.Path.{◌≡◌, refl, ap, ◌∙◌}
-use Prim.Native.Nat.{◌+◌, ◌*◌, ◌-◌, ◌≤◌}
-use native.Mathlib.Omega.{arith}
+use mathlib.Core.Path.{◌≡◌}
+use Prim.Native.Nat.{◌*◌, ◌-◌, ◌≤◌}
 use Rattle.ec20.specs.Bits.{packed}
-use Rattle.bits.proofs.Steps.{read_more, read_none}
 use Rattle.bits.proofs.fewer.Given as goal
 
 abbrev pub invariant-loop-i : goal.invariant-loop-i

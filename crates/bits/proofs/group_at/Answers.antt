@@ -4,7 +4,6 @@ use native.Mathlib.Omega.{arith}
 use mir.Syntax.{w64}
 use Rattle.ec20.specs.Numbers.{signed}
 use Rattle.ec20.specs.Bits.{packed, group_size, group_at}
-use borrow.Author.Rules.{rules}
 use Rattle.ints.proofs.Parts.{said}
 use Rattle.bits.proofs.Laws.{width-bounds, group-bits, group-range}
 use Rattle.bits.proofs.group_at.Goals as goal

@@ -3,7 +3,6 @@ use mathlib.Core.Path.{sym, ◌∙◌}
 use Prim.Native.Nat.{◌*◌, ◌≤◌}
 use native.Mathlib.Omega.{arith}
 use Rattle.ec20.specs.Numbers.{bits_in}
-use borrow.Author.Rules.{rules}
 use Rattle.bits.proofs.Laws.{width-bounds, size-within, size-full}
 use Rattle.bits.proofs.group_size.Goals as goal
 

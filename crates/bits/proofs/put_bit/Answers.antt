@@ -4,7 +4,6 @@ use Prim.Native.Nat.{ℕ, ◌/◌}
 use lib.ListN.{set}
 use lib.Seq.{set_out}
 use Rattle.ec20.specs.Bits.{with_bit}
-use borrow.Author.Rules.{rules}
 use Rattle.bits.proofs.put_bit.Goals as goal
 
 pub returns-then-at-bits : goal.returns-then-at-bits

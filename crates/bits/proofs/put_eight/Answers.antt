@@ -1,7 +1,6 @@
 -- Eight bytes. Assumes nothing.
 use native.Mathlib.Omega.{arith}
 use lib.ListN.{length-set}
-use borrow.Author.Rules.{rules}
 use Rattle.bits.proofs.Steps.{put-eight}
 use Rattle.bits.proofs.put_eight.Goals as goal
 

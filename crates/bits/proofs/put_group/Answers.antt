@@ -2,7 +2,6 @@
 use mathlib.Core.Path.{ap, ap₂, ◌∙◌}
 use Prim.Native.Nat.{ℕ}
 use mir.Facts.{to_z-of_z}
-use borrow.Author.Rules.{rules}
 use borrow.Author.Tests.{eq-eqb, ne_eqb}
 use Rattle.ec20.specs.Numbers.{low}
 use Rattle.ec20.specs.Bits.{spread, with_group}

@@ -3,7 +3,6 @@ use Prim.Native.Nat.{◌%◌}
 use native.Mathlib.Omega.{arith}
 use Rattle.bits.proofs.Bytes.{one-there}
 use Rattle.bits.proofs.Steps.{spread-code}
-use borrow.Author.Rules.{rules}
 use Rattle.bits.proofs.scatter.Goals as goal
 
 pub overflow_add-e : goal.overflow_add-e

@@ -1,6 +1,5 @@
 use mathlib.Core.Path.{refl}
 use Rattle.ec20.specs.Move.{block_fault}
-use borrow.Author.Rules.{rules}
 use Rattle.blocks.proofs.block_fault.Goals as goal
 
 pub returns-then-length-start : goal.returns-then-length-start

@@ -1,6 +1,5 @@
 use mathlib.Core.Path.{refl, sym}
 use Rattle.ec20.specs.Move.{block_work}
-use borrow.Author.Rules.{rules}
 use Rattle.blocks.proofs.block_work.Goals as goal
 
 pub returns-then-meets_work : goal.returns-then-meets_work

@@ -1,6 +1,5 @@
 use mathlib.Core.Path.{refl}
 use Rattle.ec20.specs.Devices.{inside}
-use borrow.Author.Rules.{rules}
 use Rattle.blocks.proofs.inside.Goals as goal
 
 pub returns : goal.returns

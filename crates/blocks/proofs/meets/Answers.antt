@@ -1,6 +1,5 @@
 use mathlib.Core.Path.{refl}
 use Rattle.ec20.specs.Devices.{meets}
-use borrow.Author.Rules.{rules}
 use Rattle.blocks.proofs.meets.Goals as goal
 
 pub returns : goal.returns

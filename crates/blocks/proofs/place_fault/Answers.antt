@@ -1,6 +1,5 @@
 use mathlib.Core.Path.{refl, sym}
 use Rattle.ec20.specs.Exchange.{place_fault}
-use borrow.Author.Rules.{rules}
 use Rattle.blocks.proofs.place_fault.Goals as goal
 
 pub returns-then-place-length : goal.returns-then-place-length

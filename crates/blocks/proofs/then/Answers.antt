@@ -1,5 +1,4 @@
 use mathlib.Core.Path.{refl}
-use borrow.Author.Rules.{rules}
 use Rattle.blocks.proofs.then.Goals as goal
 
 pub returns-in-Fault : goal.returns-in-Fault

@@ -1,6 +1,5 @@
 use mathlib.Core.Path.{refl}
 use Rattle.ec20.specs.Devices.{within}
-use borrow.Author.Rules.{rules}
 use Rattle.blocks.proofs.within.Goals as goal
 
 pub returns : goal.returns

@@ -1,7 +1,6 @@
 use Rattle.checker.proofs.StageLaws.{whole-file, broken-file}
 use Rattle.records.specs.Ranges.{Fits}
-use mathlib.Core.Path.{◌≡◌, sym, subst, ◌∙◌}
-use borrow.Author.Rules.{rules}
+use mathlib.Core.Path.{sym, subst, ◌∙◌}
 use Rattle.checker.proofs.check.Goals as goal
 
 pub judge_records-requires : goal.judge_records-requires

@@ -1,5 +1,4 @@
 use Rattle.checker.proofs.StageLaws.{jumps-fault, jumps-few, jumps-many}
-use borrow.Author.Rules.{rules}
 use Rattle.checker.proofs.judge_jumps.Goals as goal
 
 pub returns-in-Fault : goal.returns-in-Fault

@@ -1,5 +1,4 @@
 use Rattle.checker.proofs.StageLaws.{sound-walk, loops-bad, loops-done}
-use borrow.Author.Rules.{rules}
 use Rattle.checker.proofs.judge_loops.Goals as goal
 
 pub judge_jumps-requires : goal.judge_jumps-requires

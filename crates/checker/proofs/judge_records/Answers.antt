@@ -1,5 +1,4 @@
 use Rattle.checker.proofs.StageLaws.{records-fault, records-fine}
-use borrow.Author.Rules.{rules}
 use Rattle.checker.proofs.judge_records.Goals as goal
 
 pub returns-in-Fault : goal.returns-in-Fault

@@ -1,5 +1,4 @@
 use Rattle.checker.proofs.StageLaws.{rungs-fault, rungs-fine}
-use borrow.Author.Rules.{rules}
 use Rattle.checker.proofs.judge_rungs.Goals as goal
 
 pub returns-in-Fault : goal.returns-in-Fault

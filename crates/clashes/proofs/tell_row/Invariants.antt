@@ -10,7 +10,8 @@ use Rattle.clashes.proofs.tell_row.Given as goal
 abbrev pub invariant-loop-j : goal.invariant-loop-j
 invariant-loop-j l =
     (l.i < l.j) × (l.j ≤ l.n) × (length l.report ≡ length l.initial.report)
-    × ((t : List (List ℕ)) × ((length t + (l.i + 1) ≤ l.j) × Telling l.from (pairs_in l.row l.i (l.i + 1) (l.n - (l.i + 1))) l.initial.report l.at l.report (pairs_in l.r l.i l.j (l.n - l.j)) t))
+    × ((t : List (List ℕ)) × ((length t + (l.i + 1) ≤ l.j) × Telling l.from (pairs_in l.row l.i (l.i + 1) (l.n - (l.i + 1))) l.initial.report l.at l.report
+    (pairs_in l.r l.i l.j (l.n - l.j)) t))
 
 abbrev pub decreases-loop-j : goal.decreases-loop-j
 decreases-loop-j l = l.n - l.j

@@ -10,7 +10,17 @@ use Rattle.clashes.proofs.Telling.{Telling, telling-none, telling-more, telling-
 use Rattle.clashes.proofs.tell_rows.Goals as goal
 
 pub loop-i-init : goal.loop-i-init
-loop-i-init c = (search rules, refl, room-at-first c.args.n (search rules), ([], subst (λ (k : ℕ). Telling 0 (pairs_from c.args.of 0 c.args.n) c.args.report.now 0 c.args.report.now (pairs_from c.args.of 0 k) []) {x = c.args.n} {y = c.args.n - 0} (omega arith) (telling-none _ _ _)))
+loop-i-init c =
+    let a = c.args in (
+      search rules,
+      refl,
+      room-at-first a.n (search rules),
+      (
+        [],
+        subst (λ (k : ℕ). Telling 0 (pairs_from a.of 0 a.n) a.report.now 0 a.report.now (pairs_from a.of 0 k) []) {x = a.n} {y = a.n - 0} (omega arith)
+            (telling-none _ _ _),
+      ),
+    )
 
 pub tell_row-at-requires : goal.tell_row-at-requires
 tell_row-at-requires c =

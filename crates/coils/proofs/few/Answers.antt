@@ -15,7 +15,8 @@ answer : (c : goal.After-across-v) → let a = c.args in bit_and c.across-v.resu
 answer c =
     let x = c.byte_at in
     let y = c.byte_at-2 in
-    few-code c.args.bits.now c.args.i c.args.n x.result y.result c.across-v.result c.requires x.ensures y.ensures (omega (arith, x.type_inv)) (omega (arith, y.type_inv)) c.across-v.ensures
+    few-code c.args.bits.now c.args.i c.args.n x.result y.result c.across-v.result c.requires x.ensures y.ensures (omega (arith, x.type_inv))
+    (omega (arith, y.type_inv)) c.across-v.ensures
 
 pub overflow_sub-result : goal.overflow_sub-result
 overflow_sub-result c = one-there 16 c.args.n (omega arith)

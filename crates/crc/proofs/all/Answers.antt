@@ -1,9 +1,5 @@
-use Prim.Native.Nat.{◌<◌, ◌≤◌, ◌-◌}
-use mathlib.Core.Path.{◌≡◌, refl, ◌∙◌}
+use mathlib.Core.Path.{refl, ◌∙◌}
 use native.Mathlib.Omega.{arith}
-use borrow.Author.Rules.{rules}
-use lib.ListN.{length, drop}
-use Rattle.modbus.specs.Crc.{crc_from, crc_of}
 use Rattle.crc.proofs.Turns.{turn-eight}
 use Rattle.crc.proofs.all.Goals as goal
 

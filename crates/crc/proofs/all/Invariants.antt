@@ -1,11 +1,8 @@
 -- The invariant: what is left of the bytes, from c, gives the CRC of all.
 use Prim.Native.Nat.{◌<◌, ◌≤◌, ◌-◌}
-use mathlib.Core.Path.{◌≡◌, refl, ◌∙◌}
-use native.Mathlib.Omega.{arith}
-use borrow.Author.Rules.{rules}
+use mathlib.Core.Path.{◌≡◌}
 use lib.ListN.{length, drop}
 use Rattle.modbus.specs.Crc.{crc_from, crc_of}
-use Rattle.crc.proofs.Turns.{turn-eight}
 use Rattle.crc.proofs.all.Given as goal
 
 abbrev pub invariant-loop-i : goal.invariant-loop-i

@@ -1,8 +1,7 @@
-use borrow.Author.Rules.{rules}
 use borrow.Author.Tests.{lt-ltb, le-ltb}
 use native.Mathlib.Omega.{arith}
 use mathlib.Core.Path.{◌≡◌, refl, ap, sym, ◌∙◌}
-use Prim.Native.Nat.{ℕ, ◌+◌, ◌*◌}
+use Prim.Native.Nat.{◌+◌, ◌*◌}
 use Rattle.ec20.specs.Code.{code_of}
 use Rattle.ec20.specs.Control.{control_of}
 use Rattle.ec20.specs.File.{record_from, operand_at, u32_at}

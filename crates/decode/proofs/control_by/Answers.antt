@@ -1,7 +1,6 @@
-use mathlib.Core.Path.{◌≡◌, refl, ap, sym, ◌∙◌}
+use mathlib.Core.Path.{ap, sym, ◌∙◌}
 use Rattle.decode.proofs.ByNumber.{opens, closes, jumps, marks, ends, plain}
 use Rattle.ec20.specs.declared.Control.TheVariants.{Opens, Jumps, Marks}
-use borrow.Author.Rules.{rules}
 use Rattle.decode.proofs.control_by.Goals as goal
 
 pub returns-in-19 : goal.returns-in-19

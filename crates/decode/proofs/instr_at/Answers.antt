@@ -1,8 +1,7 @@
 use Rattle.ec20.specs.Code.{instr_of}
 use borrow.Author.Tests.{lt-ltb, le-ltb}
-use mathlib.Core.Path.{◌≡◌, refl, ap, ◌∙◌}
+use mathlib.Core.Path.{refl, ap, ◌∙◌}
 use Rattle.ec20.specs.Code.{code_of}
-use borrow.Author.Rules.{rules}
 use Rattle.decode.proofs.instr_at.Goals as goal
 
 pub returns-then-k-count : goal.returns-then-k-count

@@ -1,7 +1,6 @@
 use Prim.Native.Nat.{ℕ}
 use Rattle.ec20.specs.Code.{instr_by}
-use mathlib.Core.Path.{◌≡◌, ap, ◌∙◌}
-use borrow.Author.Rules.{rules}
+use mathlib.Core.Path.{ap, ◌∙◌}
 use Rattle.decode.proofs.instr_of.Goals as goal
 
 pub returns : goal.returns

@@ -1,6 +1,5 @@
 -- By the check's answer. An accepted file has a whole frame. Assumes nothing.
 use mathlib.Core.Path.{subst}
-use borrow.Author.Rules.{rules}
 use Rattle.checker.proofs.Accepted.{accepted-framed, not-broken}
 use Rattle.records.specs.Ranges.{Fits}
 use Rattle.engine.proofs.ScanLaws.{made-unfit, made-fit}

@@ -1,7 +1,6 @@
 -- The run, 9, or refused by the check. Assumes nothing.
 use mathlib.Core.Bool.{◌&&◌}
 use mathlib.Core.Path.{sym, ◌∙◌}
-use borrow.Author.Rules.{rules}
 use borrow.Author.Tests.{leb-true}
 use Rattle.ec20.proofs.Tests.{both}
 use Rattle.runs.proofs.Going.{ran-scan}

@@ -1,5 +1,4 @@
 -- The scan with the budget that the call does not name. Assumes nothing.
-use borrow.Author.Rules.{rules}
 use Rattle.engine.proofs.scan_unbudgeted.Goals as goal
 
 pub shape_of-y : goal.shape_of-y

@@ -1,5 +1,4 @@
 use Rattle.exchange.proofs.Cases.{refused, done, is-apart}
-use borrow.Author.Rules.{rules}
 use Rattle.exchange.proofs.exchange.Goals as goal
 
 pub swap_blocks-requires : goal.swap_blocks-requires

@@ -1,6 +1,5 @@
 use mathlib.Core.Path.{refl}
 use Rattle.ec20.specs.Exchange.{judge_exchange}
-use borrow.Author.Rules.{rules}
 use Rattle.exchange.proofs.judge.Goals as goal
 
 pub returns : goal.returns

@@ -1,12 +1,9 @@
 -- The loop's invariant: after j words the table is that of a block of j words.
-use Prim.Native.Nat.{ℕ, ◌≤◌, ◌-◌}
+use Prim.Native.Nat.{◌≤◌, ◌-◌}
 use lib.ListN.{length}
-use mathlib.Core.Path.{◌≡◌, refl, ap, ◌∙◌}
-use native.Mathlib.Omega.{arith}
+use mathlib.Core.Path.{◌≡◌}
 use Rattle.ec20.specs.Exchange.{exchanged}
 use Rattle.ec20.specs.Move.{block}
-use Rattle.exchange.proofs.Swaps.{exchanged-none, exchanged-more}
-use borrow.Author.Rules.{rules}
 use Rattle.exchange.proofs.swap_blocks.Given as goal
 
 abbrev pub invariant-loop-j : goal.invariant-loop-j

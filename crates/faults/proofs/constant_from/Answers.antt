@@ -1,6 +1,5 @@
 use mathlib.Core.Path.{refl}
 use Rattle.ec20.specs.Operands.{constant_in}
-use borrow.Author.Rules.{rules}
 use Rattle.faults.proofs.constant_from.Goals as goal
 
 pub returns : goal.returns

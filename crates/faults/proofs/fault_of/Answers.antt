@@ -1,6 +1,5 @@
 use mathlib.Core.Path.{refl, sym}
 use Rattle.ec20.specs.Operands.{fault_of, is_known}
-use borrow.Author.Rules.{rules}
 use Rattle.faults.proofs.fault_of.Goals as goal
 
 pub returns-then-target_in_work : goal.returns-then-target_in_work

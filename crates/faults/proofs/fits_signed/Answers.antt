@@ -1,5 +1,4 @@
 use Rattle.faults.proofs.Constants.{in-signed}
-use borrow.Author.Rules.{rules}
 use Rattle.faults.proofs.fits_signed.Goals as goal
 
 pub returns : goal.returns

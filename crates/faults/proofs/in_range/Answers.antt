@@ -1,6 +1,5 @@
 use mathlib.Core.Path.{refl}
 use Rattle.ec20.specs.Operands.{in_range}
-use borrow.Author.Rules.{rules}
 use Rattle.faults.proofs.in_range.Goals as goal
 
 pub returns : goal.returns

@@ -1,6 +1,5 @@
 use mathlib.Core.Path.{refl}
 use Rattle.ec20.specs.Operands.{in_work}
-use borrow.Author.Rules.{rules}
 use Rattle.faults.proofs.in_work.Goals as goal
 
 pub returns-then-p : goal.returns-then-p

@@ -1,5 +1,4 @@
 use mathlib.Core.Path.{◌∙◌}
-use borrow.Author.Rules.{rules}
 use native.Mathlib.Omega.{arith}
 use Rattle.faults.proofs.Roles.{bit-read, bit-written, source, target, changed, quotient, timer, units, passes, label, no-role}
 use Rattle.faults.proofs.is_allowed.Goals as goal

@@ -1,6 +1,5 @@
 use mathlib.Core.Path.{refl}
 use Rattle.ec20.specs.Operands.{is_bit_written}
-use borrow.Author.Rules.{rules}
 use Rattle.faults.proofs.is_bit_written.Goals as goal
 
 pub returns : goal.returns

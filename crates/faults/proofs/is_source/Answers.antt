@@ -1,4 +1,3 @@
-use borrow.Author.Rules.{rules}
 use Rattle.faults.proofs.ByKind.{words, constant, timer, group}
 use Rattle.faults.proofs.is_source.Goals as goal
 

@@ -1,4 +1,3 @@
-use borrow.Author.Rules.{rules}
 use Rattle.faults.proofs.ByKind.{target-words, target-group}
 use Rattle.faults.proofs.is_target.Goals as goal
 

@@ -1,6 +1,5 @@
 use mathlib.Core.Path.{refl}
 use Rattle.ec20.specs.Devices.{meets_work, meets}
-use borrow.Author.Rules.{rules}
 use Rattle.faults.proofs.meets_work.Goals as goal
 
 pub returns : goal.returns

@@ -1,6 +1,5 @@
 use mathlib.Core.Path.{refl}
 use Rattle.ec20.specs.Operands.{one_of}
-use borrow.Author.Rules.{rules}
 use Rattle.faults.proofs.one_of.Goals as goal
 
 pub returns : goal.returns

@@ -1,6 +1,5 @@
 use mathlib.Core.Path.{refl, sym}
 use Rattle.ec20.specs.Operands.{target_in_work}
-use borrow.Author.Rules.{rules}
 use Rattle.faults.proofs.target_in_work.Goals as goal
 
 pub returns-then-in_work : goal.returns-then-in_work

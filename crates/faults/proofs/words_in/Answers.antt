@@ -1,6 +1,5 @@
 use mathlib.Core.Path.{refl}
 use Rattle.ec20.specs.Operands.{words_in}
-use borrow.Author.Rules.{rules}
 use Rattle.faults.proofs.words_in.Goals as goal
 
 pub returns : goal.returns

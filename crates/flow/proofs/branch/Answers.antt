@@ -1,7 +1,6 @@
 use borrow.Author.Tests.{eq-eqb, ne_eqb}
 use mathlib.Core.Path.{refl}
 use Rattle.ec20.specs.Flow.{branch_of}
-use borrow.Author.Rules.{rules}
 use Rattle.flow.proofs.branch.Goals as goal
 
 pub returns-then-n-eq9 : goal.returns-then-n-eq9

@@ -1,12 +1,10 @@
 use mir.Facts.{to_z-of_z}
 use lib.Signed.{lt_z}
 use mathlib.Core.Bool.{Bool, not, ◌&&◌}
-use mathlib.Core.Path.{◌≡◌, refl, ap, ap₂, ◌∙◌}
+use mathlib.Core.Path.{ap, ap₂, ◌∙◌}
 use Rattle.ec20.specs.Flow.{compare_of, loaded}
 use borrow.Author.Tests.{eq-eqb, ne_eqb}
-use mathlib.Core.Path.{refl}
 use Rattle.ec20.specs.Flow.{compare_of}
-use borrow.Author.Rules.{rules}
 use Rattle.flow.proofs.compare.Goals as goal
 
 pub returns-then-n-eq15 : goal.returns-then-n-eq15

@@ -1,6 +1,5 @@
-use mathlib.Core.Path.{refl, sym, ap, ◌∙◌}
+use mathlib.Core.Path.{refl, sym}
 use Rattle.ec20.specs.Flow.{contact_of}
-use borrow.Author.Rules.{rules}
 use Rattle.flow.proofs.contact.Goals as goal
 
 pub returns-then-n : goal.returns-then-n

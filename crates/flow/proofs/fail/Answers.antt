@@ -1,7 +1,6 @@
 use borrow.Author.Tests.{eq-eqb, ne_eqb}
 use mathlib.Core.Path.{refl}
 use Rattle.ec20.specs.Flow.{failed}
-use borrow.Author.Rules.{rules}
 use Rattle.flow.proofs.fail.Goals as goal
 
 pub returns-then-s-eq0 : goal.returns-then-s-eq0

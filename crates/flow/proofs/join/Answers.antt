@@ -1,7 +1,6 @@
 use borrow.Author.Tests.{eq-eqb, ne_eqb}
 use mathlib.Core.Path.{refl}
 use Rattle.ec20.specs.Flow.{join_of}
-use borrow.Author.Rules.{rules}
 use Rattle.flow.proofs.join.Goals as goal
 
 pub returns-then-n-eq7 : goal.returns-then-n-eq7

@@ -3,7 +3,6 @@ use mathlib.Core.Logic.{⊎_elim}
 use mathlib.Core.Path.{◌≡◌, refl, ◌∙◌}
 use Rattle.ec20.specs.Basics.{pick}
 use Rattle.ec20.specs.Flow.{is_on, loaded, push, starts_now}
-use borrow.Author.Rules.{rules}
 use Rattle.flow.proofs.load.Goals as goal
 
 -- the block stack that was chosen

@@ -1,4 +1,5 @@
 use mathlib.Core.Path.{refl}
+use native.Mathlib.Omega.{arith}
 use borrow.Author.Tests.{ne_eqb}
 use Rattle.modbus.specs.Exceptions.{quantity_fits}
 use Rattle.frames.proofs.quantity_fits.Goals as goal
@@ -26,5 +27,4 @@ returns-in-15 c = rw c.in-15.is refl
 pub returns-in_default : goal.returns-in_default
 unfolding quantity_fits
 returns-in_default c =
-    let h = c.in_default.in_default-own.rest in
-    rw (ne_eqb _ _ h.0.0.0.0.1, ne_eqb _ _ h.0.0.0.1, ne_eqb _ _ h.0.0.1, ne_eqb _ _ h.0.1, ne_eqb _ _ h.1) refl
+    rw (ne_eqb c.args.n 1 (omega arith), ne_eqb c.args.n 3 (omega arith), ne_eqb c.args.n 5 (omega arith), ne_eqb c.args.n 6 (omega arith), ne_eqb c.args.n 15 (omega arith)) refl

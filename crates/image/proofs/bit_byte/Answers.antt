@@ -1,6 +1,5 @@
 -- One table after the other. Assumes nothing.
 use native.Mathlib.Omega.{arith}
-use borrow.Author.Rules.{rules}
 use borrow.Author.Tests.{lt-ltb, le-ltb}
 use Rattle.image.specs.Image.{bit_byte}
 use Rattle.image.proofs.bit_byte.Goals as goal

@@ -5,7 +5,6 @@ use Prim.Native.Nat.{◌/◌, ◌%◌, ◌<◌, ℕ}
 use lib.IntN.{ℤ}
 use lib.Signed.{mag}
 use lib.Dec.{lit<}
-use borrow.Author.Rules.{rules}
 use borrow.Author.Tests.{eq-eqb, ne_eqb}
 use Rattle.ec20.specs.Numbers.{low}
 use Rattle.ec20.specs.Registers.{word_at}

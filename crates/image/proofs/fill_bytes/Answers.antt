@@ -1,10 +1,7 @@
 use Prim.Native.Nat.{◌-◌}
-use mathlib.Core.Path.{sym, ◌∙◌}
 use native.Mathlib.Omega.{arith}
-use lib.ListN.{length}
-use borrow.Author.Rules.{rules}
 use Rattle.ec20.specs.File.{byte_at}
-use Rattle.image.proofs.Filling.{Filling, filling-none, filling-more, filling-done}
+use Rattle.image.proofs.Filling.{filling-none, filling-more, filling-done}
 use Rattle.image.proofs.fill_bytes.Goals as goal
 
 pub loop-i-init : goal.loop-i-init

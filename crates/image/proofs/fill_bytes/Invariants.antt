@@ -1,11 +1,8 @@
 -- The loop's invariant: the first i entries are filled. Assumes nothing.
 use Prim.Native.Nat.{◌-◌}
-use mathlib.Core.Path.{sym, ◌∙◌}
-use native.Mathlib.Omega.{arith}
 use lib.ListN.{length}
-use borrow.Author.Rules.{rules}
 use Rattle.ec20.specs.File.{byte_at}
-use Rattle.image.proofs.Filling.{Filling, filling-none, filling-more, filling-done}
+use Rattle.image.proofs.Filling.{Filling}
 use Rattle.image.proofs.fill_bytes.Given as goal
 
 abbrev pub invariant-loop-i : goal.invariant-loop-i

@@ -1,13 +1,9 @@
 use Prim.Native.Nat.{◌-◌}
-use mathlib.Core.Path.{sym, ◌∙◌}
 use native.Mathlib.Omega.{arith}
-use lib.ListN.{length}
-use borrow.Author.Rules.{rules}
 use mir.Syntax.{w16}
 use Rattle.ints.proofs.Parts.{said}
-use lib.IntN.{pos}
 use Rattle.image.specs.Image.{word_in}
-use Rattle.image.proofs.Filling.{Filling, filling-none, filling-more, filling-done}
+use Rattle.image.proofs.Filling.{filling-none, filling-more, filling-done}
 use Rattle.image.proofs.fill_words.Goals as goal
 
 pub loop-i-init : goal.loop-i-init

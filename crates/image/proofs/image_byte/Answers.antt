@@ -1,6 +1,5 @@
 -- The bits, then the words, then the leftovers. Assumes nothing.
 use native.Mathlib.Omega.{arith}
-use borrow.Author.Rules.{rules}
 use borrow.Author.Tests.{lt-ltb, le-ltb}
 use Rattle.image.specs.Image.{image_byte}
 use Rattle.image.proofs.image_byte.Goals as goal

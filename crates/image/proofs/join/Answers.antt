@@ -1,12 +1,8 @@
-use Prim.Native.Nat.{ℕ, ◌-◌, ◌<◌}
+use Prim.Native.Nat.{◌-◌}
 use native.Mathlib.Omega.{arith}
-use lib.ListN.{length}
 use borrow.Author.Count.{below_more}
-use borrow.Author.Rules.{rules}
-use Rattle.ec20.specs.Memory.{memory}
-use Rattle.ec20.specs.Plant.{plant}
-use Rattle.image.specs.Image.{image_byte, Word16}
-use Rattle.image.proofs.Filling.{Filling, filling-none, filling-more, filling-done}
+use Rattle.image.specs.Image.{image_byte}
+use Rattle.image.proofs.Filling.{filling-none, filling-more, filling-done}
 use Rattle.image.proofs.Inverse.{joined-image, joined-plant}
 use Rattle.image.proofs.join.Goals as goal
 

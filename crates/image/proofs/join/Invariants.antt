@@ -1,14 +1,10 @@
 -- The loop's invariant: the first i bytes are written, of words of 16 bits. Assumes nothing.
 use Prim.Native.Nat.{ℕ, ◌-◌, ◌<◌}
-use native.Mathlib.Omega.{arith}
 use lib.ListN.{length}
-use borrow.Author.Count.{below_more}
-use borrow.Author.Rules.{rules}
 use Rattle.ec20.specs.Memory.{memory}
 use Rattle.ec20.specs.Plant.{plant}
 use Rattle.image.specs.Image.{image_byte, Word16}
-use Rattle.image.proofs.Filling.{Filling, filling-none, filling-more, filling-done}
-use Rattle.image.proofs.Inverse.{joined-image, joined-plant}
+use Rattle.image.proofs.Filling.{Filling}
 use Rattle.image.proofs.join.Given as goal
 
 abbrev pub invariant-loop-i : goal.invariant-loop-i

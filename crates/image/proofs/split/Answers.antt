@@ -1,6 +1,5 @@
 -- Each table as it was filled, and what they are together. Assumes nothing.
 use native.Mathlib.Omega.{arith}
-use borrow.Author.Rules.{rules}
 use Rattle.image.proofs.Inverse.{join-split, split-tables}
 use Rattle.image.proofs.split.Goals as goal
 

@@ -1,4 +1,3 @@
-use borrow.Author.Rules.{rules}
 use mathlib.Core.Path.{refl}
 use Rattle.ec20.specs.declared.Row.{Row}
 use Rattle.instructions.proofs.Rows.{cell}

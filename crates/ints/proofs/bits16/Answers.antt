@@ -1,6 +1,5 @@
 -- The bits of an i16. Assumes nothing.
 use mathlib.Core.Path.{◌≡◌, ap, subst⁻¹, ◌∙◌}
-use borrow.Author.Rules.{rules}
 use Prim.Native.Nat.{ℕ, ◌<◌}
 use mir.Syntax.{w64}
 use mir.Facts.{to_z-of_z}

@@ -4,7 +4,6 @@ use lib.Signed.{lt_z}
 use mir.Syntax.{w64}
 use mir.Facts.{to_z-of_z}
 use Rattle.ints.proofs.Parts.{said}
-use borrow.Author.Rules.{rules}
 use Rattle.ints.proofs.is_below.Goals as goal
 
 pub returns : goal.returns

@@ -4,7 +4,6 @@ use lib.IntN.{pos, neg_ℤ}
 use mir.Syntax.{w64}
 use native.Mathlib.Omega.{arith}
 use Rattle.ints.proofs.Parts.{said, parts-fit, up_neg, dn-neg}
-use borrow.Author.Rules.{rules}
 use Rattle.ints.proofs.lowest.Goals as goal
 
 pub opposite-requires : goal.opposite-requires

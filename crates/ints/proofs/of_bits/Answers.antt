@@ -1,5 +1,4 @@
 use mathlib.Core.Path.{◌≡◌, sym, ap₂, subst⁻¹, ◌∙◌}
-use borrow.Author.Rules.{rules}
 use native.Mathlib.Nat.{lt_trans}
 use native.Mathlib.Omega.{arith}
 use lib.IntN.{◌-ℤ◌}

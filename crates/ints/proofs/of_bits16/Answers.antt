@@ -1,6 +1,5 @@
 -- The i16 of the bits u. Assumes nothing.
 use mathlib.Core.Path.{◌∙◌}
-use borrow.Author.Rules.{rules}
 use mir.Syntax.{w16, w64}
 use Rattle.ints.proofs.Parts.{said}
 use Rattle.ints.proofs.TwosLaws.{signed_range}

@@ -1,6 +1,5 @@
 -- A quotient, where the machine's check of it passes. Assumes nothing.
 use Rattle.ints.proofs.Quotients.{asked}
-use borrow.Author.Rules.{rules}
 use Rattle.ints.proofs.quot.Goals as goal
 
 pub nonzero_div-result : goal.nonzero_div-result

@@ -1,5 +1,4 @@
 -- A number below 2 ^ 63 reads as itself. Assumes nothing.
-use borrow.Author.Rules.{rules}
 use mir.Syntax.{w64}
 use mir.Facts.{to_z_pos}
 use Rattle.ints.proofs.whole.Goals as goal

@@ -7,7 +7,6 @@ use mir.Facts.{to_z-of_z}
 use Rattle.ec20.specs.Numbers.{low, signed, wrap}
 use Rattle.ints.proofs.Parts.{said}
 use Rattle.ints.proofs.TwosLaws.{low-lt}
-use borrow.Author.Rules.{rules}
 use Rattle.ints.proofs.wrapped.Goals as goal
 
 lows : (c : goal.After-bits) → c.bits.result ≡ low (c.args.h + c.args.h) c.args.z

@@ -1,8 +1,7 @@
-use Prim.Native.Nat.{◌-◌, ◌≤◌}
-use lib.ListN.{length}
-use mathlib.Core.Path.{◌≡◌, refl, sym, ◌∙◌}
+use Prim.Native.Nat.{◌-◌}
+use mathlib.Core.Path.{refl, sym, ◌∙◌}
 use native.Mathlib.Omega.{arith}
-use Rattle.job_moves.proofs.Judging.{from, line_refused, line-accepted, lines-over}
+use Rattle.job_moves.proofs.Judging.{line_refused, line-accepted, lines-over}
 use Rattle.job_moves.specs.Ready.{meetings_in}
 use borrow.Author.Rules.{rules}
 use Rattle.job_moves.proofs.by_tasks.Goals as goal

@@ -1,11 +1,9 @@
 -- The loop's invariant: what is told of the lines from number `line` on is what is told of all.
 use Prim.Native.Nat.{◌-◌, ◌≤◌}
 use lib.ListN.{length}
-use mathlib.Core.Path.{◌≡◌, refl, sym, ◌∙◌}
-use native.Mathlib.Omega.{arith}
-use Rattle.job_moves.proofs.Judging.{from, line_refused, line-accepted, lines-over}
+use mathlib.Core.Path.{◌≡◌}
+use Rattle.job_moves.proofs.Judging.{from}
 use Rattle.job_moves.specs.Ready.{meetings_in}
-use borrow.Author.Rules.{rules}
 use Rattle.job_moves.proofs.by_tasks.Given as goal
 
 abbrev pub invariant-loop-line : goal.invariant-loop-line

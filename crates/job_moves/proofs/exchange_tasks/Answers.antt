@@ -1,7 +1,6 @@
-use Prim.Native.Nat.{◌-◌, ◌≤◌}
+use Prim.Native.Nat.{◌-◌}
 use native.Mathlib.Omega.{arith}
-use lib.ListN.{length}
-use Rattle.job_moves.proofs.Exchanging.{Exchanging, exchanging-none, exchanging-more, exchanging-all}
+use Rattle.job_moves.proofs.Exchanging.{exchanging-none, exchanging-more, exchanging-all}
 use borrow.Author.Rules.{rules}
 use Rattle.job_moves.proofs.exchange_tasks.Goals as goal
 
@@ -9,11 +8,10 @@ pub loop-at-init : goal.loop-at-init
 loop-at-init c = (exchanging-none c.args.lines.now c.args.d.now c.requires.0, search rules)
 
 pub loop-at-preserved : goal.loop-at-preserved
-loop-at-preserved c =
-    (
-      exchanging-more _ _ c.loop-at.at _ _ c.loop-at.invariant.0 (omega arith) (c.requires.1 c.loop-at.at (omega arith)) c.exchange.ensures,
-      search rules,
-    )
+loop-at-preserved c = (
+  exchanging-more _ _ c.loop-at.at _ _ c.loop-at.invariant.0 (omega arith) (c.requires.1 c.loop-at.at (omega arith)) c.exchange.ensures,
+  search rules,
+)
 
 pub shape_of-d : goal.shape_of-d
 shape_of-d c = c.loop-at.invariant.0.size

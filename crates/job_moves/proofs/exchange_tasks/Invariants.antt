@@ -1,9 +1,7 @@
 -- The loop's invariant: the lines from number `at` on, exchanged in the table, make the table with all of them exchanged.
 use Prim.Native.Nat.{◌-◌, ◌≤◌}
-use native.Mathlib.Omega.{arith}
 use lib.ListN.{length}
-use Rattle.job_moves.proofs.Exchanging.{Exchanging, exchanging-none, exchanging-more, exchanging-all}
-use borrow.Author.Rules.{rules}
+use Rattle.job_moves.proofs.Exchanging.{Exchanging}
 use Rattle.job_moves.proofs.exchange_tasks.Given as goal
 
 abbrev pub invariant-loop-at : goal.invariant-loop-at

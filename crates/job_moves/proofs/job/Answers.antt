@@ -1,6 +1,5 @@
 use native.Mathlib.Omega.{arith}
 use Rattle.job_moves.proofs.Cases.{is-fit, too_many, unfit, fit}
-use borrow.Author.Rules.{rules}
 use Rattle.job_moves.proofs.job.Goals as goal
 
 pub returns-then-lines-gt64 : goal.returns-then-lines-gt64

@@ -2,7 +2,6 @@ use mathlib.Core.Path.{ap}
 use mathlib.Core.Bool.{not}
 use Rattle.checker.proofs.Accepted.{not-broken}
 use Rattle.job_moves.proofs.Cases.{fit-framed, is-ready, is_right, wrong-table, right-table}
-use borrow.Author.Rules.{rules}
 use Rattle.job_moves.proofs.job_accepted.Goals as goal
 
 pub returns-then-not-d : goal.returns-then-not-d

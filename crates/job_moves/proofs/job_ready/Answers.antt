@@ -1,7 +1,6 @@
 use Rattle.job_moves.proofs.Cases.{is-movable, lines-refused, lines-done}
 use Rattle.job_moves.proofs.Granting.{each-granted}
 use Rattle.job_moves.specs.Ready.{meetings_in}
-use borrow.Author.Rules.{rules}
 use Rattle.job_moves.proofs.job_ready.Goals as goal
 
 pub move_tasks-requires : goal.move_tasks-requires

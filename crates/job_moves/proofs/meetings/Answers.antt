@@ -1,7 +1,6 @@
-use Prim.Native.Nat.{◌-◌, ◌≤◌}
-use lib.ListN.{length}
-use mathlib.Core.Path.{◌≡◌, refl, sym, ◌∙◌}
-use Rattle.job_moves.proofs.Meeting.{from, meets_at, meets-none, meets-over, all_lines}
+use Prim.Native.Nat.{◌-◌}
+use mathlib.Core.Path.{refl, sym, ◌∙◌}
+use Rattle.job_moves.proofs.Meeting.{meets_at, meets-none, meets-over, all_lines}
 use borrow.Author.Rules.{rules}
 use Rattle.job_moves.proofs.meetings.Goals as goal
 

@@ -1,9 +1,8 @@
 -- The loop's invariant: what is told of the lines from number i on is what is told of all.
 use Prim.Native.Nat.{◌-◌, ◌≤◌}
 use lib.ListN.{length}
-use mathlib.Core.Path.{◌≡◌, refl, sym, ◌∙◌}
-use Rattle.job_moves.proofs.Meeting.{from, meets_at, meets-none, meets-over, all_lines}
-use borrow.Author.Rules.{rules}
+use mathlib.Core.Path.{◌≡◌}
+use Rattle.job_moves.proofs.Meeting.{from}
 use Rattle.job_moves.proofs.meetings.Given as goal
 
 abbrev pub invariant-loop-i : goal.invariant-loop-i

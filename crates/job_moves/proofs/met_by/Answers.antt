@@ -1,6 +1,6 @@
-use Prim.Native.Nat.{◌-◌, ◌≤◌}
-use mathlib.Core.Path.{◌≡◌, refl, sym, ◌∙◌}
-use Rattle.job_moves.proofs.Meeting.{ahead, met, unmet, none_ahead, all-ahead}
+use Prim.Native.Nat.{◌-◌}
+use mathlib.Core.Path.{refl, sym, ◌∙◌}
+use Rattle.job_moves.proofs.Meeting.{met, unmet, none_ahead, all-ahead}
 use borrow.Author.Rules.{rules}
 use Rattle.job_moves.proofs.met_by.Goals as goal
 

@@ -1,8 +1,7 @@
 -- The loop's invariant: the search from line j on finds what the whole search finds.
 use Prim.Native.Nat.{◌-◌, ◌≤◌}
-use mathlib.Core.Path.{◌≡◌, refl, sym, ◌∙◌}
-use Rattle.job_moves.proofs.Meeting.{ahead, met, unmet, none_ahead, all-ahead}
-use borrow.Author.Rules.{rules}
+use mathlib.Core.Path.{◌≡◌}
+use Rattle.job_moves.proofs.Meeting.{ahead}
 use Rattle.job_moves.proofs.met_by.Given as goal
 
 abbrev pub invariant-loop-j : goal.invariant-loop-j

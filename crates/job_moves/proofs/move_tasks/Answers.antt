@@ -1,7 +1,7 @@
-use Prim.Native.Nat.{◌-◌, ◌≤◌}
+use Prim.Native.Nat.{◌-◌}
 use native.Mathlib.Omega.{arith}
 use lib.ListN.{length}
-use Rattle.job_moves.proofs.Moving.{Moving, moving-none, moving-more, moving-all}
+use Rattle.job_moves.proofs.Moving.{moving-none, moving-more, moving-all}
 use borrow.Author.Rules.{rules}
 use Rattle.job_moves.proofs.move_tasks.Goals as goal
 

@@ -1,9 +1,7 @@
 -- The loop's invariant: the lines from number k on, moved in the file, make the file with all of them moved.
 use Prim.Native.Nat.{◌-◌, ◌≤◌}
-use native.Mathlib.Omega.{arith}
 use lib.ListN.{length}
-use Rattle.job_moves.proofs.Moving.{Moving, moving-none, moving-more, moving-all}
-use borrow.Author.Rules.{rules}
+use Rattle.job_moves.proofs.Moving.{Moving}
 use Rattle.job_moves.proofs.move_tasks.Given as goal
 
 abbrev pub invariant-loop-k : goal.invariant-loop-k

@@ -1,6 +1,5 @@
 use native.Mathlib.Omega.{arith}
 use Rattle.job_moves.proofs.Judging.{place_found, no_place}
-use borrow.Author.Rules.{rules}
 use Rattle.job_moves.proofs.placed.Goals as goal
 
 pub overflow_add-place : goal.overflow_add-place

@@ -20,7 +20,8 @@ overflow_add-result c =
 
 pub returns-else-byte_in-end : goal.returns-else-byte_in-end
 returns-else-byte_in-end c =
-    let e = part-spelt _ _ _ _ c.number.ensures.value _ _ _ c.in-Spelt.is c.byte_in.ensures c.if-byte_in-end.false in record { value = e; part_in = subst (PartIn _ _) (sym e) (part_in _ _ _ (search rules)) }
+    let e = part-spelt _ _ _ _ c.number.ensures.value _ _ _ c.in-Spelt.is c.byte_in.ensures c.if-byte_in-end.false in
+    record { value = e; part_in = subst (PartIn _ _) (sym e) (part_in _ _ _ (search rules)) }
 
 pub returns-in-Misspelt : goal.returns-in-Misspelt
 returns-in-Misspelt c = record { value = part-misspelt _ _ _ _ c.number.ensures.value c.in-Misspelt.is; part_in = tt }

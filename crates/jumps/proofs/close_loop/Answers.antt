@@ -1,5 +1,4 @@
 -- NEXT with passes to go, and with none: a case each of the definition.
-use borrow.Author.Rules.{rules}
 use Rattle.jumps.proofs.Laws.{close-again, close-done}
 use Rattle.jumps.proofs.close_loop.Goals as goal
 

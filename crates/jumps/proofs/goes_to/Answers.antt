@@ -1,5 +1,4 @@
 -- Of a FOR the search gives its NEXT, of a CJ the table gives its label's place; any other record has 0.
-use borrow.Author.Rules.{rules}
 use mathlib.Core.Path.{refl, sym, ap, ◌∙◌}
 use Rattle.ec20.specs.Control.{or_past}
 use Rattle.jumps.specs.Prepared.{goes_to}

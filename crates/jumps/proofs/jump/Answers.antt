@@ -1,5 +1,4 @@
 -- CJ with flow goes to its label's place, without it to the next record.
-use borrow.Author.Rules.{rules}
 use mathlib.Core.Path.{sym, ◌∙◌}
 use Rattle.jumps.proofs.Laws.{jump-on, jump-off}
 use Rattle.jumps.proofs.jump.Goals as goal

@@ -1,11 +1,6 @@
-use borrow.Author.Rules.{rules}
 use native.Mathlib.Omega.{arith}
 use Prim.Native.Nat.{◌-◌}
-use Rattle.ec20.specs.Code.{program_in}
-use Rattle.ec20.specs.Control.{controls_of}
-use Rattle.ec20.specs.File.{records_from}
-use Rattle.jumps.proofs.Tables.{Filled, filled_none, filled_more, filled-all}
-use Rattle.jumps.specs.Prepared.{goes_to}
+use Rattle.jumps.proofs.Tables.{filled_none, filled_more, filled-all}
 use Rattle.jumps.proofs.looked_up.Goals as goal
 
 pub loop-k-init : goal.loop-k-init

@@ -1,5 +1,4 @@
 -- FOR 0, a loop opened, the ninth passed by: a case each of the definition.
-use borrow.Author.Rules.{rules}
 use Rattle.jumps.proofs.Laws.{for-none, for_some, for-ninth}
 use Rattle.jumps.proofs.open_loop.Goals as goal
 

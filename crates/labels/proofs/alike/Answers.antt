@@ -1,4 +1,3 @@
-use borrow.Author.Rules.{rules}
 use Rattle.ec20.specs.Labels.{same}
 use Rattle.labels.proofs.alike.Goals as goal
 

@@ -1,12 +1,8 @@
 use borrow.Author.Rules.{rules}
-use mathlib.Core.Path.{◌≡◌, refl, sym, ◌∙◌}
+use mathlib.Core.Path.{refl, sym, ◌∙◌}
 use native.Mathlib.Omega.{arith}
-use Prim.Native.Nat.{◌-◌, ◌≤◌}
-use Rattle.ec20.specs.Code.{program_in}
-use Rattle.ec20.specs.Control.{controls_of, found_in_body}
-use Rattle.ec20.specs.File.{records_from}
+use Prim.Native.Nat.{◌-◌}
 use Rattle.labels.proofs.Laws.{hit, stop, on, over, near}
-use Rattle.labels.specs.Want.{want_of}
 use Rattle.labels.proofs.find.Goals as goal
 
 pub loop-k-init : goal.loop-k-init

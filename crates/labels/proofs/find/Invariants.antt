@@ -1,12 +1,10 @@
 -- The loop's invariant: the search from record k on, d deep, gives what the whole search gives; and d is at most k, so that it fits.
-use borrow.Author.Rules.{rules}
-use mathlib.Core.Path.{◌≡◌, refl, sym, ◌∙◌}
-use native.Mathlib.Omega.{arith}
+use mathlib.Core.Path.{◌≡◌}
 use Prim.Native.Nat.{◌-◌, ◌≤◌}
 use Rattle.ec20.specs.Code.{program_in}
 use Rattle.ec20.specs.Control.{controls_of, found_in_body}
 use Rattle.ec20.specs.File.{records_from}
-use Rattle.labels.proofs.Laws.{hit, stop, on, over, near}
+use Rattle.labels.proofs.Laws.{on}
 use Rattle.labels.specs.Want.{want_of}
 use Rattle.labels.proofs.find.Given as goal
 

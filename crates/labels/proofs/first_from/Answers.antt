@@ -1,10 +1,7 @@
 use borrow.Author.Rules.{rules}
-use mathlib.Core.Path.{◌≡◌, refl, sym, ap, ◌∙◌}
+use mathlib.Core.Path.{refl, sym, ap, ◌∙◌}
 use Prim.Native.Nat.{◌-◌}
-use Rattle.ec20.specs.Basics.{first_at, refused_at}
-use Rattle.ec20.specs.Code.{program_in}
-use Rattle.ec20.specs.Control.{controls_of}
-use Rattle.ec20.specs.File.{records_from}
+use Rattle.ec20.specs.Basics.{refused_at}
 use Rattle.ec20.specs.Labels.{label_fault}
 use Rattle.labels.proofs.Laws.{passes, fails, none}
 use Rattle.labels.proofs.first_from.Goals as goal

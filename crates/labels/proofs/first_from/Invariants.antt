@@ -1,12 +1,10 @@
-use borrow.Author.Rules.{rules}
-use mathlib.Core.Path.{◌≡◌, refl, sym, ap, ◌∙◌}
+use mathlib.Core.Path.{◌≡◌}
 use Prim.Native.Nat.{◌-◌}
 use Rattle.ec20.specs.Basics.{first_at, refused_at}
 use Rattle.ec20.specs.Code.{program_in}
 use Rattle.ec20.specs.Control.{controls_of}
 use Rattle.ec20.specs.File.{records_from}
 use Rattle.ec20.specs.Labels.{label_fault}
-use Rattle.labels.proofs.Laws.{passes, fails, none}
 use Rattle.labels.proofs.first_from.Given as goal
 
 abbrev pub invariant-loop-k : goal.invariant-loop-k

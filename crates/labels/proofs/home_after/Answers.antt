@@ -1,4 +1,3 @@
-use borrow.Author.Rules.{rules}
 use borrow.Author.Tests.{eq-eqb, ne_eqb}
 use Rattle.labels.specs.Homes.{home_around, home_after}
 use Rattle.labels.proofs.home_after.Goals as goal

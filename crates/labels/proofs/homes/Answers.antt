@@ -1,10 +1,6 @@
-use borrow.Author.Rules.{rules}
 use native.Mathlib.Omega.{arith}
 use Prim.Native.Nat.{◌-◌, ◌<◌}
-use Rattle.ec20.specs.Code.{program_in}
-use Rattle.ec20.specs.Control.{controls_of}
-use Rattle.ec20.specs.File.{records_from}
-use Rattle.labels.proofs.Bodies.{Filled, filled_none, home-low, filled_more, filled-all}
+use Rattle.labels.proofs.Bodies.{filled_none, home-low, filled_more, filled-all}
 use Rattle.labels.proofs.homes.Goals as goal
 
 pub loop-k-init : goal.loop-k-init

@@ -1,11 +1,9 @@
 -- The loop's invariant: the loop bodies of the first k records are told, and home is that of record k.
-use borrow.Author.Rules.{rules}
-use native.Mathlib.Omega.{arith}
-use Prim.Native.Nat.{◌-◌, ◌<◌}
+use Prim.Native.Nat.{◌-◌}
 use Rattle.ec20.specs.Code.{program_in}
 use Rattle.ec20.specs.Control.{controls_of}
 use Rattle.ec20.specs.File.{records_from}
-use Rattle.labels.proofs.Bodies.{Filled, filled_none, home-low, filled_more, filled-all}
+use Rattle.labels.proofs.Bodies.{Filled}
 use Rattle.labels.proofs.homes.Given as goal
 
 abbrev pub invariant-loop-k : goal.invariant-loop-k

@@ -1,11 +1,7 @@
 use borrow.Author.Rules.{rules}
-use mathlib.Core.Path.{◌≡◌, sym, ◌∙◌}
+use mathlib.Core.Path.{sym, ◌∙◌}
 use native.Mathlib.Nat.{sub-zero}
 use Prim.Native.Nat.{◌-◌}
-use Rattle.ec20.specs.Basics.{first_at}
-use Rattle.ec20.specs.Code.{program_in}
-use Rattle.ec20.specs.Control.{controls_of, marks, first_label}
-use Rattle.ec20.specs.File.{records_from}
 use Rattle.labels.proofs.Laws.{passes, fails, none}
 use Rattle.labels.proofs.label.Goals as goal
 

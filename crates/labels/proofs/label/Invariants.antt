@@ -1,13 +1,10 @@
 -- The loop's invariant: the first LBL of the label among the records from k on is its first of all.
-use borrow.Author.Rules.{rules}
-use mathlib.Core.Path.{◌≡◌, sym, ◌∙◌}
-use native.Mathlib.Nat.{sub-zero}
+use mathlib.Core.Path.{◌≡◌}
 use Prim.Native.Nat.{◌-◌}
 use Rattle.ec20.specs.Basics.{first_at}
 use Rattle.ec20.specs.Code.{program_in}
 use Rattle.ec20.specs.Control.{controls_of, marks, first_label}
 use Rattle.ec20.specs.File.{records_from}
-use Rattle.labels.proofs.Laws.{passes, fails, none}
 use Rattle.labels.proofs.label.Given as goal
 
 abbrev pub invariant-loop-k : goal.invariant-loop-k

@@ -1,4 +1,3 @@
-use borrow.Author.Rules.{rules}
 use native.Mathlib.Omega.{arith}
 use Rattle.labels.proofs.Bodies.{place-low, no_place, no-later, later}
 use Rattle.labels.proofs.misplaced.Goals as goal

@@ -1,7 +1,6 @@
 use borrow.Author.Tests.{eq-eqb, ne_eqb}
 use Rattle.ec20.specs.Control.{closes, marks}
 use Rattle.ec20.specs.Walkers.{shift_of, turn_of}
-use borrow.Author.Rules.{rules}
 use Rattle.labels.proofs.next_turn.Goals as goal
 
 pub returns-then-d-ne0 : goal.returns-then-d-ne0

@@ -1,4 +1,3 @@
-use borrow.Author.Rules.{rules}
 use Rattle.labels.proofs.Table.{told_at, told_none}
 use Rattle.labels.specs.Places.{Places}
 use Rattle.labels.proofs.place.Goals as goal

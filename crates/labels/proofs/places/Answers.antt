@@ -1,9 +1,5 @@
-use borrow.Author.Rules.{rules}
 use native.Mathlib.Omega.{arith}
-use Rattle.ec20.specs.Code.{program_in}
-use Rattle.ec20.specs.Control.{controls_of}
-use Rattle.ec20.specs.File.{records_from}
-use Rattle.labels.proofs.Table.{Filled, filled_none, filled_more, filled-same, filled-all}
+use Rattle.labels.proofs.Table.{filled_none, filled_more, filled-same, filled-all}
 use Rattle.labels.proofs.places.Goals as goal
 
 pub loop-k-init : goal.loop-k-init

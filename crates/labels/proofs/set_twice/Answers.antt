@@ -1,4 +1,3 @@
-use borrow.Author.Rules.{rules}
 use Rattle.ec20.specs.Labels.{label_fault}
 use Rattle.labels.proofs.set_twice.Goals as goal
 

@@ -1,5 +1,4 @@
 use Rattle.ec20.specs.Control.{marks}
-use borrow.Author.Rules.{rules}
 use Rattle.labels.proofs.sets.Goals as goal
 
 pub returns-in-Plain : goal.returns-in-Plain

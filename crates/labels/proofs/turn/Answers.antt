@@ -1,5 +1,4 @@
 use Rattle.labels.proofs.Laws.{plain-on, opens-on, jumps-on, ends_on}
-use borrow.Author.Rules.{rules}
 use Rattle.labels.proofs.turn.Goals as goal
 
 pub returns-in-Plain : goal.returns-in-Plain

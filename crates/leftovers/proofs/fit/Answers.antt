@@ -1,5 +1,4 @@
 -- By the size. Assumes nothing.
-use borrow.Author.Rules.{rules}
 use Rattle.leftovers.proofs.Laws.{misfit, fit-two}
 use Rattle.leftovers.proofs.fit.Goals as goal
 

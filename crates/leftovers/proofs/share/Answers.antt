@@ -2,7 +2,6 @@
 use mathlib.Core.Path.{sym, subst}
 use native.Mathlib.Omega.{arith}
 use lib.ListN.{length-set}
-use borrow.Author.Rules.{rules}
 use Rattle.ec20.specs.Plant.{leftover_of, rest_after}
 use Rattle.ec20.specs.Timers.{Few}
 use Rattle.leftovers.proofs.Laws.{two, tens-low, hundreds-low, shared-units, rewritten, few}

@@ -1,10 +1,9 @@
-use Prim.Native.Nat.{ℕ, ◌-◌, ◌<◌, ◌≤◌}
+use Prim.Native.Nat.{◌-◌}
 use native.Mathlib.Omega.{arith}
 use mathlib.Core.Path.{sym, ◌∙◌}
 use borrow.Author.Rules.{rules}
-use Rattle.loops.specs.Capped.{cap}
-use Rattle.loops.specs.Walks.{controls_in, Small}
-use Rattle.loops.proofs.Laws.{go-in, enter-in, no_finish, small, after-in, go, enter, enter-bad, leave, refuse, looped, looped-bad, Ahead, ahead_none, ahead-go, ahead_enter, ends-bad, ends-leave, ends-finish, ends-refuse}
+use Rattle.loops.specs.Walks.{Small}
+use Rattle.loops.proofs.Laws.{go-in, enter-in, no_finish, small, after-in, go, enter, enter-bad, leave, refuse, looped, looped-bad, ahead_none, ahead-go, ahead_enter, ends-bad, ends-leave, ends-finish, ends-refuse}
 use Rattle.loops.proofs.+in_loop_sequence.Goals as goal
 
 pub in_loop-sequence-requires : goal.in_loop-sequence-requires

@@ -4,7 +4,6 @@ use Rattle.ec20.specs.Walkers.{plus}
 use Rattle.ec20.specs.declared.Walked.TheVariants.{Done}
 use Rattle.loops.specs.Capped.{capped}
 use Rattle.loops.specs.Walks.{Small}
-use borrow.Author.Rules.{rules}
 use Rattle.loops.proofs.add.Goals as goal
 
 pub overflow_add-more : goal.overflow_add-more

@@ -2,7 +2,6 @@ use borrow.Author.Tests.{eq-eqb, ne_eqb}
 use mathlib.Core.Path.{ap, ◌∙◌}
 use Rattle.ec20.specs.declared.Control.{Control}
 use Rattle.ec20.specs.Walkers.{last_act, mid_act, act_of}
-use borrow.Author.Rules.{rules}
 use Rattle.loops.proofs.asked.Goals as goal
 
 pub returns-then-at-count : goal.returns-then-at-count

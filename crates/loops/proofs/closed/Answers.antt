@@ -1,12 +1,11 @@
 use native.Mathlib.Omega.{arith}
 use native.Mathlib.Nat.{mul-le-mul}
-use mathlib.Core.Path.{◌≡◌, ap, ◌∙◌}
-use Prim.Native.Nat.{ℕ, ◌+◌, ◌*◌, ◌≤◌, min}
+use mathlib.Core.Path.{ap}
+use Prim.Native.Nat.{ℕ, ◌+◌, ◌*◌, ◌≤◌}
 use Rattle.ec20.specs.declared.Walked.TheVariants.{Done}
 use Rattle.loops.specs.Capped.{cap, capped}
 use Rattle.loops.specs.Walks.{loop_of, Small}
 use Rattle.loops.proofs.Laws.{passes-capped}
-use borrow.Author.Rules.{rules}
 use Rattle.loops.proofs.closed.Goals as goal
 
 -- what a loop counts at most, where passes and body are at the cap

@@ -1,6 +1,5 @@
 use Rattle.ec20.specs.Walkers.{last_act}
 use borrow.Author.Tests.{eq-eqb, ne_eqb}
-use borrow.Author.Rules.{rules}
 use Rattle.loops.proofs.last_act.Goals as goal
 
 pub returns-then-depth-eq0 : goal.returns-then-depth-eq0

@@ -1,6 +1,5 @@
 use Rattle.ec20.specs.Walkers.{mid_act}
 use borrow.Author.Tests.{lt-ltb, le-ltb}
-use borrow.Author.Rules.{rules}
 use Rattle.loops.proofs.mid_act.Goals as goal
 
 pub returns-then-depth-lt8 : goal.returns-then-depth-lt8

@@ -1,6 +1,5 @@
 use native.Mathlib.Omega.{arith}
 use Rattle.loops.specs.Walks.{IsSequence}
-use borrow.Author.Rules.{rules}
 use Rattle.loops.proofs.walk.Goals as goal
 
 pub returns : goal.returns

@@ -2,7 +2,6 @@ use mathlib.Core.Path.{ap}
 use Prim.Native.Nat.{ℕ}
 use lib.Dec.{eqb}
 use Rattle.marks.specs.Marked.{marked}
-use borrow.Author.Rules.{rules}
 use Rattle.marks.proofs.is_marked.Goals as goal
 
 pub returns : goal.returns

@@ -1,9 +1,7 @@
 -- The loop's invariant: the words passed are marked.
-use mathlib.Core.Path.{◌≡◌, refl, ap, ◌∙◌}
-use Prim.Native.Nat.{ℕ, ◌≤◌, ◌-◌}
-use native.Mathlib.Omega.{arith}
+use mathlib.Core.Path.{◌≡◌}
+use Prim.Native.Nat.{◌≤◌, ◌-◌}
 use Rattle.marks.specs.Marked.{marking}
-use Rattle.marks.proofs.Maps.{marking-more}
 use Rattle.marks.proofs.mark.Given as goal
 
 abbrev pub invariant-loop-k : goal.invariant-loop-k

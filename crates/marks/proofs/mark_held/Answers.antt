@@ -1,5 +1,4 @@
 use Rattle.marks.proofs.Maps.{held-some, held_none}
-use borrow.Author.Rules.{rules}
 use Rattle.marks.proofs.mark_held.Goals as goal
 
 pub returns-then-in_d : goal.returns-then-in_d

@@ -1,6 +1,5 @@
 use mathlib.Core.Path.{refl}
 use Rattle.ec20.specs.Move.{judge_move}
-use borrow.Author.Rules.{rules}
 use Rattle.mover.proofs.judge.Goals as goal
 
 pub returns : goal.returns

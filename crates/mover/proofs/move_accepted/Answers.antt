@@ -6,7 +6,6 @@ use Rattle.ec20.specs.Operands.{first_bad}
 use Rattle.ec20.specs.declared.Judged.TheVariants.{Fine}
 use Rattle.mover.proofs.Moving.{own-records}
 use Rattle.records.specs.Ranges.{Fits}
-use borrow.Author.Rules.{rules}
 use Rattle.mover.proofs.move_accepted.Goals as goal
 
 pub move_records-requires : goal.move_records-requires

@@ -1,6 +1,5 @@
 use Rattle.mover.proofs.Judging.{is-sized}
 use Rattle.mover.proofs.Moving.{judged-bad, judged-fine}
-use borrow.Author.Rules.{rules}
 use Rattle.mover.proofs.move_records.Goals as goal
 
 pub judge-requires : goal.judge-requires

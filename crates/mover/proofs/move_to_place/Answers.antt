@@ -1,6 +1,5 @@
 use Rattle.mover.proofs.Moving.{moved_to, no_place}
 use Rattle.mover.proofs.Placing.{is_below}
-use borrow.Author.Rules.{rules}
 use Rattle.mover.proofs.move_to_place.Goals as goal
 
 pub place-requires : goal.place-requires

@@ -1,6 +1,5 @@
 -- OUT always, SET and RST with flow. Assumes nothing.
 use Rattle.operands.proofs.Steps.{coil-acts, coil-rests}
-use borrow.Author.Rules.{rules}
 use Rattle.operands.proofs.coil.Goals as goal
 
 pub returns-then-n-on : goal.returns-then-n-on

@@ -4,7 +4,6 @@ use Prim.Native.Nat.{◌%◌}
 use native.Mathlib.Omega.{arith}
 use Rattle.operands.proofs.Steps.{told}
 use Rattle.ints.proofs.TwosLaws.{signed_range}
-use borrow.Author.Rules.{rules}
 use Rattle.operands.proofs.constant.Goals as goal
 
 pub returns-in-16 : goal.returns-in-16

@@ -1,7 +1,6 @@
 -- The smaller of the two, or 0 without flow. Assumes nothing.
 use mir.Facts.{to_z-of_z}
 use Rattle.ec20.specs.Timers.{old_of, counted_of}
-use Rattle.ints.proofs.TwosLaws.{not-true, not-false}
 use mathlib.Core.Path.{ap, ◌∙◌}
 use native.Mathlib.Omega.{arith}
 use Rattle.ec20.specs.Timers.{counted_of}

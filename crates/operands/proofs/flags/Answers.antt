@@ -1,7 +1,6 @@
 -- Where the outcome has flags. Assumes nothing.
 use borrow.Author.Tests.{ne_eqb}
 use Rattle.operands.proofs.Steps.{flags-put}
-use borrow.Author.Rules.{rules}
 use Rattle.operands.proofs.flags.Goals as goal
 
 pub returns-then-r-eq1 : goal.returns-then-r-eq1

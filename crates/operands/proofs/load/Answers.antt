@@ -3,7 +3,6 @@ use borrow.Author.Tests.{ne_eqb}
 use native.Mathlib.Omega.{arith}
 use lib.ListN.{length-take}
 use Rattle.operands.proofs.Steps.{loaded-in, loaded-constant, loaded-other}
-use borrow.Author.Rules.{rules}
 use Rattle.operands.proofs.load.Goals as goal
 
 pub number_in-requires : goal.number_in-requires

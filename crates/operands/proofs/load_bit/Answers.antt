@@ -1,5 +1,4 @@
 -- The bit of the table of that kind. Assumes nothing.
-use borrow.Author.Rules.{rules}
 use borrow.Author.Tests.{ne_eqb}
 use mathlib.Core.Bool.{Bool}
 use mathlib.Core.Path.{ap}

@@ -6,7 +6,6 @@ use mir.Facts.{to_z-of_z}
 use lib.Signed.{lt_z, mag}
 use Rattle.operands.proofs.Steps.{old-negative}
 use Rattle.ec20.specs.Timers.{old_of}
-use borrow.Author.Rules.{rules}
 use Rattle.operands.proofs.old.Goals as goal
 
 pub plain-requires : goal.plain-requires

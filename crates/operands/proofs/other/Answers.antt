@@ -4,7 +4,6 @@ use native.Mathlib.Omega.{arith}
 use mir.Syntax.{w64}
 use Rattle.ints.proofs.Parts.{said}
 use Rattle.operands.proofs.Steps.{half-least, read-d, read-t, read-x, read-y, read-m, read_none}
-use borrow.Author.Rules.{rules}
 use Rattle.operands.proofs.other.Goals as goal
 
 pub returns-in-7 : goal.returns-in-7

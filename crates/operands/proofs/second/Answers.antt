@@ -7,7 +7,6 @@ use mir.Syntax.{w64}
 use Rattle.ints.proofs.Parts.{said}
 use Rattle.bits.proofs.Laws.{width-bounds}
 use Rattle.operands.proofs.Steps.{in_table, into_d, follows, second-stored}
-use borrow.Author.Rules.{rules}
 use Rattle.operands.proofs.second.Goals as goal
 
 pub returns-then-r-ne1 : goal.returns-then-r-ne1

@@ -6,7 +6,6 @@ use mir.Facts.{to_z-of_z}
 use Rattle.operands.proofs.Steps.{in_table, into_d}
 use Rattle.ec20.specs.Registers.{with_number}
 use Rattle.ec20.specs.Memory.{memory, store_of}
-use borrow.Author.Rules.{rules}
 use Rattle.operands.proofs.store.Goals as goal
 
 pub put_in-requires : goal.put_in-requires

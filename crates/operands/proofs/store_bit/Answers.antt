@@ -1,6 +1,5 @@
 -- By the kind. Assumes nothing.
 use Rattle.operands.proofs.Steps.{bit-y, bit-m, bit-none}
-use borrow.Author.Rules.{rules}
 use Rattle.operands.proofs.store_bit.Goals as goal
 
 pub returns-in-3 : goal.returns-in-3

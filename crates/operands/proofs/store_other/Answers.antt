@@ -4,7 +4,6 @@ use mir.Facts.{to_z-of_z}
 use Rattle.operands.proofs.Steps.{into_d, into-y, into-m, into-none}
 use Rattle.ec20.specs.Registers.{with_number}
 use Rattle.ec20.specs.Bits.{with_group}
-use borrow.Author.Rules.{rules}
 use Rattle.operands.proofs.store_other.Goals as goal
 
 pub returns-in-7 : goal.returns-in-7

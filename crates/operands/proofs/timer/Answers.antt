@@ -7,7 +7,6 @@ use Rattle.ec20.specs.Timers.{counted_of, limit_at}
 use mathlib.Core.Path.{ap, ap₂, ◌∙◌}
 use native.Mathlib.Omega.{arith}
 use Rattle.operands.proofs.Steps.{told, timed}
-use borrow.Author.Rules.{rules}
 use Rattle.operands.proofs.timer.Goals as goal
 
 pub put_word-requires : goal.put_word-requires

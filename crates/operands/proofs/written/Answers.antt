@@ -2,7 +2,6 @@
 use lib.Dec.{eqb}
 use borrow.Author.Tests.{eq-eqb, ne_eqb}
 use Rattle.operands.proofs.Steps.{bit-of}
-use borrow.Author.Rules.{rules}
 use Rattle.operands.proofs.written.Goals as goal
 
 pub returns-then-n-eq12 : goal.returns-then-n-eq12

@@ -1,7 +1,6 @@
 use mathlib.Core.Path.{refl}
 use Rattle.ec20.specs.Devices.{within}
 use Rattle.places.specs.Runs.{free}
-use borrow.Author.Rules.{rules}
 use Rattle.places.proofs.is_free.Goals as goal
 
 pub returns : goal.returns

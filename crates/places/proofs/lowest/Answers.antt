@@ -1,9 +1,6 @@
-use Prim.Native.Nat.{ℕ, ◌≤◌, ◌<◌, ◌-◌}
+use Prim.Native.Nat.{◌-◌}
 use native.Mathlib.Omega.{arith}
-use Rattle.ec20.specs.Devices.{ec20}
-use Rattle.ec20.specs.Move.{block}
-use Rattle.places.specs.Runs.{free}
-use Rattle.places.proofs.Runs.{Run, run_none, run_more, run_fits, run-found, run-over}
+use Rattle.places.proofs.Runs.{run_none, run_more, run_fits, run-found, run-over}
 use Rattle.places.proofs.lowest.Goals as goal
 
 pub loop-i-init : goal.loop-i-init

@@ -1,10 +1,9 @@
 -- The loop's invariant: so many free words in a row end before word i, and no run of `size` begins before these.
-use Prim.Native.Nat.{ℕ, ◌≤◌, ◌<◌, ◌-◌}
-use native.Mathlib.Omega.{arith}
+use Prim.Native.Nat.{◌≤◌, ◌-◌}
 use Rattle.ec20.specs.Devices.{ec20}
 use Rattle.ec20.specs.Move.{block}
 use Rattle.places.specs.Runs.{free}
-use Rattle.places.proofs.Runs.{Run, run_none, run_more, run_fits, run-found, run-over}
+use Rattle.places.proofs.Runs.{Run}
 use Rattle.places.proofs.lowest.Given as goal
 
 abbrev pub invariant-loop-i : goal.invariant-loop-i

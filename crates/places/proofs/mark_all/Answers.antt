@@ -1,7 +1,6 @@
 use Rattle.ec20.specs.Devices.{ec20}
 use Rattle.ec20.specs.UseMap.{holds}
 use Rattle.marks.proofs.Walk.{widen-held, widen-three}
-use borrow.Author.Rules.{rules}
 use Rattle.places.proofs.mark_all.Goals as goal
 
 pub returns : goal.returns

@@ -1,7 +1,6 @@
 use Rattle.ec20.specs.Devices.{ec20}
 use Rattle.ec20.specs.Move.{block, pool}
 use Rattle.places.proofs.Found.{by_map}
-use borrow.Author.Rules.{rules}
 use Rattle.places.proofs.place.Goals as goal
 
 pub returns : goal.returns

@@ -1,5 +1,4 @@
 use mathlib.Core.Path.{refl}
-use borrow.Author.Rules.{rules}
 use Rattle.places.proofs.run_to.Goals as goal
 
 pub returns-then-test : goal.returns-then-test

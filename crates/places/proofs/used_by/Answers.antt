@@ -1,10 +1,8 @@
 use native.Mathlib.Omega.{arith}
 use Prim.Native.Nat.{◌-◌}
 use Rattle.ec20.specs.Devices.{ec20}
-use Rattle.ec20.specs.File.{records_from}
 use Rattle.ec20.specs.UseMap.{holds}
 use Rattle.marks.proofs.Walk.{passed_none, passed-more, passed-all}
-use Rattle.marks.specs.Marked.{Passed}
 use Rattle.places.proofs.used_by.Goals as goal
 
 pub loop-k-init : goal.loop-k-init

@@ -3,7 +3,6 @@ use Prim.Native.Nat.{ℕ, ◌/◌}
 use mathlib.Core.Path.{refl, ap, ◌∙◌}
 use native.Mathlib.Omega.{arith}
 use Rattle.quotients.proofs.Divisions.{words-on, small, dividend, second_fits, value_fits, refused, paired}
-use borrow.Author.Rules.{rules}
 use Rattle.quotients.proofs.divided16.Goals as goal
 
 pub div-r-requires : goal.div-r-requires

@@ -1,6 +1,5 @@
 -- Each byte by the definition. Assumes nothing.
 use mathlib.Core.Path.{refl}
-use borrow.Author.Rules.{rules}
 use Rattle.ec20.specs.Written.{trailer_of}
 use Rattle.records.proofs.trailer.Goals as goal
 

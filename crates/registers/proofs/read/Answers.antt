@@ -3,6 +3,7 @@ use lib.ListN.{length-set}
 use mathlib.Core.Path.{refl, ap, ◌∙◌}
 use mir.Syntax.{w16}
 use native.Mathlib.Omega.{arith}
+use borrow.Author.Rules.{rules}
 use Rattle.ec20.specs.Numbers.{low}
 use Rattle.ec20.specs.Registers.{word_at}
 use Rattle.ints.proofs.Parts.{said}
@@ -23,7 +24,7 @@ loop-i-preserved c =
     let a = c.args in (
       omega arith,
       read_more a.d.now a.a l.i c.bits16-u.result a.reply.now l.reply l.invariant.1
-          (c.bits16-u.ensures.0 ∙ ap (low 65536) (said w16 {z = word_at a.d.now (a.a + l.i)} c.bits16-arg-1.given refl))
+          (c.bits16-u.ensures.0 ∙ ap (low 65536) (said w16 {z = word_at a.d.now (a.a + l.i)} (search rules) refl))
           (omega arith),
       length_two l.reply _ _ _ _ ∙ l.invariant.2,
     )

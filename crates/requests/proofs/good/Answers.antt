@@ -10,7 +10,8 @@ write_registers-requires c = (c.requires.0, c.requires.2, c.requires.4)
 
 pub returns-then-quiet : goal.returns-then-quiet
 returns-then-quiet c =
-    heard_all c.args.f.now c.args.m.now c.args.d.now c.args.reply.now c.args.quiet c.requires.1 c.requires.2.good _ _ c.write_coils.ensures c.write_registers.ensures c.if-quiet.true
+    heard_all c.args.f.now c.args.m.now c.args.d.now c.args.reply.now c.args.quiet c.requires.1 c.requires.2.good _ _ c.write_coils.ensures
+    c.write_registers.ensures c.if-quiet.true
 
 pub told-k-requires : goal.told-k-requires
 told-k-requires c = (c.requires.0, c.requires.2, c.requires.3, c.requires.4, c.requires.5)
@@ -28,4 +29,5 @@ close-requires c =
 
 pub returns : goal.returns
 returns c =
-    heard-good c.args.f.now c.args.m.now c.args.d.now c.args.reply.now c.args.quiet c.requires.1 c.requires.2.good _ _ c.write_coils-2.ensures c.write_registers-2.ensures c.if-quiet.false _ _ _ _ c.told-k.ensures c.close.ensures
+    heard-good c.args.f.now c.args.m.now c.args.d.now c.args.reply.now c.args.quiet c.requires.1 c.requires.2.good _ _ c.write_coils-2.ensures
+    c.write_registers-2.ensures c.if-quiet.false _ _ _ _ c.told-k.ensures c.close.ensures

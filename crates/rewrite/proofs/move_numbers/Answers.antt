@@ -1,6 +1,5 @@
-use Prim.Native.Nat.{ℕ, ◌≤◌, ◌-◌}
-use lib.ListN.{length}
-use mathlib.Core.Path.{◌≡◌, refl, ap, ◌∙◌}
+use Prim.Native.Nat.{ℕ, ◌-◌}
+use mathlib.Core.Path.{refl, ap, ◌∙◌}
 use native.Mathlib.Omega.{arith}
 use Rattle.ec20.specs.Move.{block}
 use Rattle.rewrite.proofs.RecordsLaws.{after, after_none, after_more}
@@ -22,8 +21,7 @@ move_record-requires c =
 
 pub loop-k-preserved : goal.loop-k-preserved
 loop-k-preserved c =
-    let a = c.args in
-    (
+    let a = c.args in (
       search rules,
       after_more _ _ a.f.now a.first c.loop-k.k (omega (arith, c.requires.0.whole)) c.loop-k.invariant.1 c.move_record.ensures,
       c.move_record.auto.f ∙ c.loop-k.invariant.2,

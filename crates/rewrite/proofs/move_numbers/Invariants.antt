@@ -1,11 +1,9 @@
 -- The loop's invariant: after k records the file is the moved file of k records.
-use Prim.Native.Nat.{ℕ, ◌≤◌, ◌-◌}
+use Prim.Native.Nat.{◌≤◌, ◌-◌}
 use lib.ListN.{length}
-use mathlib.Core.Path.{◌≡◌, refl, ap, ◌∙◌}
-use native.Mathlib.Omega.{arith}
+use mathlib.Core.Path.{◌≡◌}
 use Rattle.ec20.specs.Move.{block}
-use Rattle.rewrite.proofs.RecordsLaws.{after, after_none, after_more}
-use borrow.Author.Rules.{rules}
+use Rattle.rewrite.proofs.RecordsLaws.{after}
 use Rattle.rewrite.proofs.move_numbers.Given as goal
 
 abbrev pub invariant-loop-k : goal.invariant-loop-k

@@ -1,5 +1,4 @@
 use Rattle.rewrite.proofs.RecordLaws.{record-moved}
-use borrow.Author.Rules.{rules}
 use Rattle.rewrite.proofs.move_record.Goals as goal
 
 pub returns : goal.returns

@@ -3,7 +3,6 @@ use lib.ListN.{length-set}
 use mathlib.Core.Path.{◌≡◌, refl}
 use native.Mathlib.Omega.{arith}
 use Rattle.rewrite.specs.Numbers.{with_u32}
-use borrow.Author.Rules.{rules}
 use Rattle.rewrite.proofs.put_u32.Goals as goal
 
 pub bounds-f-i-2 : goal.bounds-f-i-2

@@ -1,4 +1,3 @@
-use borrow.Author.Rules.{rules}
 use Rattle.rungs.proofs.after_join.Goals as goal
 
 pub returns : goal.returns

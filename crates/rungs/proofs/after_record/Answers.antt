@@ -1,4 +1,3 @@
-use borrow.Author.Rules.{rules}
 use Rattle.ec20.specs.Rung.{after_record}
 use Rattle.rungs.proofs.after_record.Goals as goal
 

@@ -1,4 +1,3 @@
-use borrow.Author.Rules.{rules}
 use borrow.Author.Tests.{eq-eqb, ne_eqb}
 use Rattle.ec20.specs.Rung.{branch_ok}
 use Rattle.rungs.proofs.branch_ok.Goals as goal

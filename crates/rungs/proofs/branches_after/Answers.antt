@@ -1,4 +1,3 @@
-use borrow.Author.Rules.{rules}
 use borrow.Author.Tests.{eq-eqb, ne_eqb}
 use Rattle.ec20.specs.Rung.{branches_after}
 use Rattle.rungs.proofs.branches_after.Goals as goal

@@ -1,13 +1,9 @@
 use borrow.Author.Rules.{rules}
 use mathlib.Core.Bool.{true, false}
-use mathlib.Core.Path.{◌≡◌, sym, ◌∙◌}
+use mathlib.Core.Path.{sym, ◌∙◌}
 use native.Mathlib.Nat.{sub-zero}
-use Prim.Native.Nat.{◌-◌, ◌≤◌}
-use Rattle.ec20.specs.Code.{code_of, program_in}
-use Rattle.ec20.specs.File.{records_from}
-use Rattle.ec20.specs.Rung.{broken_from, first_broken}
-use Rattle.rungs.proofs.Laws.{turn, broke, done, turned, within-after}
-use Rattle.rungs.specs.Within.{Within}
+use Prim.Native.Nat.{◌-◌}
+use Rattle.rungs.proofs.Laws.{turn, broke, done, within-after}
 use Rattle.rungs.proofs.first_broken.Goals as goal
 
 pub loop-k-init : goal.loop-k-init

@@ -1,13 +1,9 @@
 -- The loop's invariant: the state is within the stacks, and the judgement from record k on, in that state, is the whole judgement.
-use borrow.Author.Rules.{rules}
-use mathlib.Core.Bool.{true, false}
-use mathlib.Core.Path.{◌≡◌, sym, ◌∙◌}
-use native.Mathlib.Nat.{sub-zero}
+use mathlib.Core.Path.{◌≡◌}
 use Prim.Native.Nat.{◌-◌, ◌≤◌}
 use Rattle.ec20.specs.Code.{code_of, program_in}
 use Rattle.ec20.specs.File.{records_from}
 use Rattle.ec20.specs.Rung.{broken_from, first_broken}
-use Rattle.rungs.proofs.Laws.{turn, broke, done, turned, within-after}
 use Rattle.rungs.specs.Within.{Within}
 use Rattle.rungs.proofs.first_broken.Given as goal
 

@@ -1,4 +1,3 @@
-use borrow.Author.Rules.{rules}
 use Rattle.ec20.specs.Rung.{keeps}
 use Rattle.rungs.proofs.keeps.Goals as goal
 

@@ -1,4 +1,3 @@
-use borrow.Author.Rules.{rules}
 use mathlib.Core.Path.{sym, ◌∙◌}
 use Rattle.ec20.specs.Rung.{load_ok}
 use Rattle.rungs.proofs.load_ok.Goals as goal

@@ -1,4 +1,3 @@
-use borrow.Author.Rules.{rules}
 use mathlib.Core.Path.{sym, ◌∙◌}
 use Rattle.runs.specs.Ends.{ends}
 use Rattle.runs.proofs.at_end.Goals as goal

@@ -1,4 +1,3 @@
-use borrow.Author.Rules.{rules}
 use mathlib.Core.Path.{refl}
 use Rattle.ec20.specs.Scan.{answer_of}
 use Rattle.runs.proofs.ended.Goals as goal

@@ -1,12 +1,8 @@
 use Prim.Native.Nat.{◌-◌}
-use mathlib.Core.Path.{◌≡◌, refl, sym, ◌∙◌}
+use mathlib.Core.Path.{refl, sym, ◌∙◌}
 use native.Mathlib.Omega.{arith}
-use lib.ListN.{length}
 use borrow.Author.Rules.{rules}
-use Rattle.ec20.specs.File.{records_from}
-use Rattle.ec20.specs.Memory.{memory}
-use Rattle.ec20.specs.Step.{open_loops, world}
-use Rattle.runs.proofs.Going.{Going, going_start, going_on, going-ended, going-used}
+use Rattle.runs.proofs.Going.{going_start, going_on, going-ended, going-used}
 use Rattle.runs.proofs.run.Goals as goal
 
 pub loop-more-init : goal.loop-more-init

@@ -1,12 +1,10 @@
 use Prim.Native.Nat.{◌-◌}
-use mathlib.Core.Path.{◌≡◌, refl, sym, ◌∙◌}
-use native.Mathlib.Omega.{arith}
+use mathlib.Core.Path.{◌≡◌}
 use lib.ListN.{length}
-use borrow.Author.Rules.{rules}
 use Rattle.ec20.specs.File.{records_from}
 use Rattle.ec20.specs.Memory.{memory}
 use Rattle.ec20.specs.Step.{open_loops, world}
-use Rattle.runs.proofs.Going.{Going, going_start, going_on, going-ended, going-used}
+use Rattle.runs.proofs.Going.{Going}
 use Rattle.runs.proofs.run.Given as goal
 
 abbrev pub invariant-loop-more : goal.invariant-loop-more

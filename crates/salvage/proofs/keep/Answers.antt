@@ -1,10 +1,10 @@
 use mathlib.Core.Path.{ap}
 use mathlib.Core.Bool.{not}
-use Prim.Native.Nat.{◌-◌, ◌≤◌}
+use Prim.Native.Nat.{◌-◌}
 use mathlib.Core.Path.{refl}
 use native.Mathlib.Omega.{arith}
 use borrow.Author.Rules.{rules}
-use Rattle.salvage.proofs.Keeping.{On, on_none, on-all, on-bad, on-end, on-more}
+use Rattle.salvage.proofs.Keeping.{on_none, on-all, on-bad, on-end, on-more}
 use Rattle.salvage.proofs.keep.Goals as goal
 
 pub loop-k-init : goal.loop-k-init

@@ -1,9 +1,6 @@
 -- The invariant: the run goes on over the records that were passed. Assumes nothing.
 use Prim.Native.Nat.{◌-◌, ◌≤◌}
-use mathlib.Core.Path.{refl}
-use native.Mathlib.Omega.{arith}
-use borrow.Author.Rules.{rules}
-use Rattle.salvage.proofs.Keeping.{On, on_none, on-all, on-bad, on-end, on-more}
+use Rattle.salvage.proofs.Keeping.{On}
 use Rattle.salvage.proofs.keep.Given as goal
 
 abbrev pub invariant-loop-k : goal.invariant-loop-k

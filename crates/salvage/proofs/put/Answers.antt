@@ -1,8 +1,7 @@
-use Prim.Native.Nat.{ℕ, ◌-◌, ◌≤◌}
+use Prim.Native.Nat.{ℕ, ◌-◌}
 use mathlib.Core.Path.{◌≡◌, refl, sym, ap, ◌∙◌}
 use native.Mathlib.Omega.{arith}
-use lib.ListN.{length, take, length-set}
-use borrow.Author.Rules.{rules}
+use lib.ListN.{take, length-set}
 use Rattle.ec20.proofs.BufferLaws.{over_none}
 use Rattle.ec20.specs.Buffer.{over}
 use Rattle.salvage.proofs.Copied.{copied_more}

@@ -1,12 +1,8 @@
 -- The invariant: the output has the bytes that were passed, and is as long as it was. Assumes nothing.
-use Prim.Native.Nat.{ℕ, ◌-◌, ◌≤◌}
-use mathlib.Core.Path.{◌≡◌, refl, sym, ap, ◌∙◌}
-use native.Mathlib.Omega.{arith}
-use lib.ListN.{length, take, length-set}
-use borrow.Author.Rules.{rules}
-use Rattle.ec20.proofs.BufferLaws.{over_none}
+use Prim.Native.Nat.{◌-◌, ◌≤◌}
+use mathlib.Core.Path.{◌≡◌}
+use lib.ListN.{length, take}
 use Rattle.ec20.specs.Buffer.{over}
-use Rattle.salvage.proofs.Copied.{copied_more}
 use Rattle.salvage.proofs.put.Given as goal
 
 abbrev pub invariant-loop-i : goal.invariant-loop-i

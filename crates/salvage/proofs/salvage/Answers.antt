@@ -1,6 +1,5 @@
 -- What is kept decides. Assumes nothing.
 use native.Mathlib.Omega.{arith}
-use borrow.Author.Rules.{rules}
 use Rattle.salvage.proofs.Answered.{refused-1, refused-16, done}
 use Rattle.salvage.proofs.salvage.Goals as goal
 

@@ -1,5 +1,4 @@
 -- Part after part. Assumes nothing.
-use borrow.Author.Rules.{rules}
 use Rattle.salvage.proofs.Written.{written-by}
 use Rattle.salvage.proofs.write.Goals as goal
 

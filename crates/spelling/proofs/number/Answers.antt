@@ -21,9 +21,11 @@ overflow_sub-d c = rw c.loop-k.invariant.1 (digits-next _ _ _).0
 
 pub returns-then-d-from : goal.returns-then-d-from
 returns-then-d-from c =
-    let l = c.loop-k in record { value = number_is _ _ _ _ _ _ l.invariant.0 c.loop-k-test.false l.invariant.1 c.byte_in-zero.ensures true c.if-d-from.true; number_in = tt }
+    let l = c.loop-k in
+    record { value = number_is _ _ _ _ _ _ l.invariant.0 c.loop-k-test.false l.invariant.1 c.byte_in-zero.ensures true c.if-d-from.true; number_in = tt }
 
 pub returns : goal.returns
 returns c =
     let l = c.loop-k in
-    let e = number_is _ _ _ _ _ _ l.invariant.0 c.loop-k-test.false l.invariant.1 c.byte_in-zero.ensures false c.if-d-from.false in record { value = e; number_in = subst (NumberIn _ _) (sym e) (number_in _ _ _) }
+    let e = number_is _ _ _ _ _ _ l.invariant.0 c.loop-k-test.false l.invariant.1 c.byte_in-zero.ensures false c.if-d-from.false in
+    record { value = e; number_in = subst (NumberIn _ _) (sym e) (number_in _ _ _) }

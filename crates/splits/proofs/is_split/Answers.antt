@@ -1,5 +1,4 @@
 use mathlib.Core.Path.{refl}
-use borrow.Author.Rules.{rules}
 use Rattle.splits.proofs.is_split.Goals as goal
 
 pub returns : goal.returns

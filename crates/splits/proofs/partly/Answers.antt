@@ -1,6 +1,5 @@
 use mathlib.Core.Path.{refl}
 use Rattle.ec20.specs.Move.{partly}
-use borrow.Author.Rules.{rules}
 use Rattle.splits.proofs.partly.Goals as goal
 
 pub returns : goal.returns

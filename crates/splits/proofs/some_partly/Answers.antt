@@ -1,6 +1,5 @@
 use mathlib.Core.Path.{refl}
 use Rattle.ec20.specs.UseMap.{some_operand}
-use borrow.Author.Rules.{rules}
 use Rattle.splits.proofs.some_partly.Goals as goal
 
 pub returns : goal.returns

@@ -1,8 +1,8 @@
-use Prim.Native.Nat.{ℕ, ◌+◌, ◌*◌, ◌-◌, ◌≤◌}
-use mathlib.Core.Path.{◌≡◌, refl, sym, ap, ◌∙◌}
+use Prim.Native.Nat.{◌-◌}
+use mathlib.Core.Path.{refl, sym, ap, ◌∙◌}
 use native.Mathlib.Nat.{sub-zero}
 use native.Mathlib.Omega.{arith}
-use Rattle.ec20.specs.Basics.{first_at, refused_at}
+use Rattle.ec20.specs.Basics.{refused_at}
 use Rattle.ec20.specs.File.{record_from}
 use Rattle.ec20.specs.Move.{block, partly, split_fault}
 use Rattle.ec20.specs.UseMap.{record_has}

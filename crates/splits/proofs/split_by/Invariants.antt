@@ -1,14 +1,10 @@
 -- The loop's invariant: the search from record k on finds what the whole search finds.
 use Prim.Native.Nat.{ℕ, ◌+◌, ◌*◌, ◌-◌, ◌≤◌}
-use mathlib.Core.Path.{◌≡◌, refl, sym, ap, ◌∙◌}
-use native.Mathlib.Nat.{sub-zero}
-use native.Mathlib.Omega.{arith}
-use Rattle.ec20.specs.Basics.{first_at, refused_at}
+use mathlib.Core.Path.{◌≡◌}
+use Rattle.ec20.specs.Basics.{first_at}
 use Rattle.ec20.specs.File.{record_from}
-use Rattle.ec20.specs.Move.{block, partly, split_fault}
+use Rattle.ec20.specs.Move.{block, partly}
 use Rattle.ec20.specs.UseMap.{record_has}
-use Rattle.labels.proofs.Laws.{passes, fails, none}
-use borrow.Author.Rules.{rules}
 use Rattle.splits.proofs.split_by.Given as goal
 
 abbrev pub invariant-loop-k : goal.invariant-loop-k

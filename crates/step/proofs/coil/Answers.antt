@@ -1,5 +1,4 @@
 use Rattle.step.proofs.ExecLaws.{both-parts}
-use borrow.Author.Rules.{rules}
 use Rattle.step.proofs.coil.Goals as goal
 
 pub returns : goal.returns

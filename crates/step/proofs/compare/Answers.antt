@@ -2,8 +2,7 @@ use Rattle.ec20.specs.Flow.{compare_of}
 use Rattle.ints.proofs.Parts.{said}
 use mir.Syntax.{w64}
 use lib.IntN.{ℤ}
-use mathlib.Core.Path.{◌≡◌, ap₂, ◌∙◌}
-use borrow.Author.Rules.{rules}
+use mathlib.Core.Path.{ap₂, ◌∙◌}
 use Rattle.step.proofs.compare.Goals as goal
 
 pub returns : goal.returns

@@ -5,7 +5,6 @@ use Rattle.ec20.specs.Flow.{contact_of}
 use Rattle.ec20.specs.Table.{table, row_of}
 use Rattle.step.proofs.ExecLaws.{nop-arm, contact-arm, join-arm, branch-arm, coil-arm, timer-arm, for-arm, next-arm, jump-arm, label-arm, end-arm}
 use Rattle.step.proofs.FormLaws as by
-use borrow.Author.Rules.{rules}
 use Rattle.step.proofs.exec.Goals as goal
 
 pub open_loop-requires : goal.open_loop-requires

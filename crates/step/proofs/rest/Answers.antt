@@ -1,6 +1,5 @@
 use mathlib.Core.Path.{refl, sym, ◌∙◌}
 use native.Mathlib.Omega.{arith}
-use borrow.Author.Rules.{rules}
 use Rattle.step.proofs.ExecLaws.{nop-arm, compare-arm, word-arm}
 use Rattle.step.proofs.FormLaws as by
 use Rattle.step.proofs.rest.Goals as goal

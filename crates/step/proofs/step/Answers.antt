@@ -3,7 +3,6 @@ use Prim.Native.Nat.{ℕ, ◌<◌}
 use mathlib.Core.Path.{refl, sym, subst}
 use Rattle.step.proofs.ExecLaws.{end-arm}
 use Rattle.step.proofs.FormLaws as by
-use borrow.Author.Rules.{rules}
 use Rattle.step.proofs.step.Goals as goal
 
 pub returns-then-count-s : goal.returns-then-count-s

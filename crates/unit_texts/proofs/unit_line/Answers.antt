@@ -19,10 +19,17 @@ overflow_add-p c =
 
 pub returns-in-Spelt-line : goal.returns-in-Spelt-line
 returns-in-Spelt-line c =
-    let e = unit-spelt _ _ _ c.number.ensures.value _ _ _ c.in-Spelt.is c.byte_in.ensures c.if-byte_in-ne32.false _ c.line.ensures.value _ _ _ c.in-Spelt-line.is in record { value = e; unit_in = subst (UnitIn _ _) (sym e) (unit-in _ _) }
+    let e =
+    unit-spelt _ _ _ c.number.ensures.value _ _ _ c.in-Spelt.is c.byte_in.ensures c.if-byte_in-ne32.false _ c.line.ensures.value _ _ _ c.in-Spelt-line.is in
+    record { value = e; unit_in = subst (UnitIn _ _) (sym e) (unit-in _ _) }
 
 pub returns-in-Misspelt-line : goal.returns-in-Misspelt-line
-returns-in-Misspelt-line c = record { value = rest-misspelt _ _ _ c.number.ensures.value _ _ _ c.in-Spelt.is c.byte_in.ensures c.if-byte_in-ne32.false _ c.line.ensures.value c.in-Misspelt-line.is; unit_in = tt }
+returns-in-Misspelt-line c =
+    record {
+      value = rest-misspelt _ _ _ c.number.ensures.value _ _ _ c.in-Spelt.is c.byte_in.ensures c.if-byte_in-ne32.false _ c.line.ensures.value
+          c.in-Misspelt-line.is;
+      unit_in = tt;
+    }
 
 pub returns-in-Misspelt : goal.returns-in-Misspelt
 returns-in-Misspelt c = record { value = unit-misspelt _ _ _ c.number.ensures.value c.in-Misspelt.is; unit_in = tt }

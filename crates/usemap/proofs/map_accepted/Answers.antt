@@ -2,7 +2,6 @@ use mathlib.Core.Path.{subst, ap, ◌∙◌}
 use Rattle.checker.proofs.Accepted.{whole-records, not-broken}
 use Rattle.records.specs.Ranges.{Fits}
 use Rattle.usemap.specs.Maps.{map_in}
-use borrow.Author.Rules.{rules}
 use Rattle.usemap.proofs.map_accepted.Goals as goal
 
 pub map_in-requires : goal.map_in-requires

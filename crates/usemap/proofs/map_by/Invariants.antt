@@ -1,13 +1,9 @@
 -- The loop's invariant: the words that the records passed read and write are marked.
-use borrow.Author.Rules.{rules}
-use native.Mathlib.Omega.{arith}
 use Prim.Native.Nat.{◌-◌}
 use Rattle.ec20.specs.Devices.{ec20}
 use Rattle.ec20.specs.File.{records_from}
-use Rattle.marks.proofs.Walk.{passed_none, passed-more}
 use Rattle.marks.specs.Marked.{Passed}
 use Rattle.usemap.specs.Maps.{read_by, written_by}
-use Rattle.usemap.proofs.Laws.{both-maps}
 use Rattle.usemap.proofs.map_by.Given as goal
 
 abbrev pub invariant-loop-k : goal.invariant-loop-k

@@ -1,5 +1,4 @@
 use Rattle.usemap.proofs.Laws.{widen-used, widen-unused}
-use borrow.Author.Rules.{rules}
 use Rattle.usemap.proofs.mark_if.Goals as goal
 
 pub returns-then-used : goal.returns-then-used

@@ -1,6 +1,5 @@
 use Rattle.ec20.specs.Roles.{is_written}
 use Rattle.usemap.proofs.Laws.{widen-uses}
-use borrow.Author.Rules.{rules}
 use Rattle.usemap.proofs.mark_written.Goals as goal
 
 pub returns : goal.returns

@@ -1,6 +1,5 @@
 use Rattle.checker.proofs.Accepted.{accepted-framed}
 use Rattle.usemap.proofs.Laws.{unfit-map, fit-map}
-use borrow.Author.Rules.{rules}
 use Rattle.usemap.proofs.use_map.Goals as goal
 
 pub map_accepted-requires : goal.map_accepted-requires

@@ -1,7 +1,6 @@
 -- A word at 16 bits, else a pair. Assumes nothing.
-use borrow.Author.Tests.{eq-eqb, ne_eqb}
+use borrow.Author.Tests.{ne_eqb}
 use Rattle.ec20.specs.Registers.{number_at}
-use borrow.Author.Rules.{rules}
 use Rattle.words.proofs.Steps.{told}
 use Rattle.words.proofs.number_at.Goals as goal
 

@@ -3,7 +3,6 @@ use Prim.Native.Nat.{◌+◌, ◌^◌}
 use native.Mathlib.Omega.{arith}
 use borrow.Author.Tests.{ne_eqb}
 use Rattle.ec20.specs.Registers.{word_at, number_at}
-use borrow.Author.Rules.{rules}
 use Rattle.words.proofs.Steps.{Told, word_read, pair_read}
 use Rattle.words.proofs.number_in.Goals as goal
 

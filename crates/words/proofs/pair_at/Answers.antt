@@ -2,7 +2,6 @@
 use mathlib.Core.Path.{refl}
 use native.Mathlib.Omega.{arith}
 use mir.Syntax.{w64}
-use borrow.Author.Rules.{rules}
 use Rattle.ints.proofs.Parts.{said}
 use Rattle.words.proofs.Steps.{told, pair_read}
 use Rattle.words.proofs.pair_at.Goals as goal

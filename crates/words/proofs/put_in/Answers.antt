@@ -7,7 +7,6 @@ use mir.Syntax.{w16}
 use mir.Facts.{to_z-of_z}
 use borrow.Author.Tests.{ne_eqb}
 use Rattle.ec20.specs.Registers.{high_word, low_word, with_pair, with_number}
-use borrow.Author.Rules.{rules}
 use Rattle.ints.proofs.Parts.{said}
 use Rattle.words.proofs.Steps.{Told, high-of, low_of}
 use Rattle.words.proofs.put_in.Goals as goal

@@ -3,9 +3,8 @@ use mathlib.Core.Path.{ap, ◌∙◌}
 use lib.IntN.{ℤ}
 use lib.ListN.{set}
 use mir.Facts.{to_z-of_z}
-use borrow.Author.Tests.{eq-eqb, ne_eqb}
+use borrow.Author.Tests.{ne_eqb}
 use Rattle.ec20.specs.Registers.{with_pair, with_number}
-use borrow.Author.Rules.{rules}
 use Rattle.words.proofs.put_number.Goals as goal
 
 pub put_word-requires : goal.put_word-requires

@@ -6,7 +6,6 @@ use lib.IntN.{ℤ}
 use lib.ListN.{set}
 use mir.Facts.{to_z-of_z}
 use Rattle.ec20.specs.Registers.{high_word, low_word, with_pair}
-use borrow.Author.Rules.{rules}
 use Rattle.words.proofs.Steps.{Told, high-of, low_of}
 use Rattle.words.proofs.put_pair.Goals as goal
 

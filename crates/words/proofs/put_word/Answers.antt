@@ -6,7 +6,6 @@ use lib.ListN.{set}
 use lib.Seq.{set_out}
 use mir.Syntax.{w16}
 use mir.Facts.{to_z-of_z}
-use borrow.Author.Rules.{rules}
 use Rattle.ints.proofs.Parts.{said}
 use Rattle.words.proofs.put_word.Goals as goal
 

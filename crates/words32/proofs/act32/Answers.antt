@@ -10,7 +10,6 @@ use Rattle.outcomes.proofs.Arms.{held, of_two, value_fits, flags-fit, refused, f
 use Rattle.outcomes.proofs.Numbers.{of-32}
 use Rattle.outcomes.proofs.Outcomes.{sqt-two}
 use Rattle.ints.proofs.Parts.{said}
-use borrow.Author.Rules.{rules}
 use Rattle.words32.proofs.act32.Goals as goal
 
 pub overflow_add-i : goal.overflow_add-i

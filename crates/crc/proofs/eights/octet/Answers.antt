@@ -1,4 +1,3 @@
-use borrow.Author.Rules.{rules}
 use Rattle.crc.proofs.Takes.{takes-eight}
 use Rattle.crc.proofs.eights.octet.Goals as goal
 

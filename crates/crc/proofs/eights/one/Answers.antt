@@ -1,5 +1,4 @@
 use mathlib.Core.Path.{refl}
-use borrow.Author.Rules.{rules}
 use Rattle.crc.specs.Eights.{plus}
 use Rattle.crc.proofs.eights.one.Goals as goal
 

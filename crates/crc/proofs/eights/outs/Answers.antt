@@ -1,5 +1,4 @@
 use mathlib.Core.Path.{sym}
-use borrow.Author.Rules.{rules}
 use Rattle.crc.proofs.eights.outs.Goals as goal
 
 pub returns : goal.returns

@@ -1,4 +1,3 @@
-use borrow.Author.Rules.{rules}
 use Rattle.crc.proofs.Takes.{takes-four, four-small}
 use Rattle.crc.proofs.eights.quad.Goals as goal
 

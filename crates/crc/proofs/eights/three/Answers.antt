@@ -1,5 +1,4 @@
 use mathlib.Core.Path.{refl}
-use borrow.Author.Rules.{rules}
 use Rattle.crc.specs.Eights.{plus3}
 use Rattle.crc.proofs.eights.three.Goals as goal
 

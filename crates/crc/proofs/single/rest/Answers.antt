@@ -1,9 +1,5 @@
-use Prim.Native.Nat.{◌<◌, ◌≤◌, ◌-◌}
-use mathlib.Core.Path.{◌≡◌, refl}
+use mathlib.Core.Path.{refl}
 use native.Mathlib.Omega.{arith}
-use borrow.Author.Rules.{rules}
-use lib.ListN.{length, drop}
-use Rattle.modbus.specs.Crc.{crc_from}
 use Rattle.crc.proofs.Turns.{turn, done}
 use Rattle.crc.proofs.single.rest.Goals as goal
 

@@ -1,11 +1,8 @@
 -- The invariant: what is left of the bytes, from c, gives what all give.
 use Prim.Native.Nat.{◌<◌, ◌≤◌, ◌-◌}
-use mathlib.Core.Path.{◌≡◌, refl}
-use native.Mathlib.Omega.{arith}
-use borrow.Author.Rules.{rules}
+use mathlib.Core.Path.{◌≡◌}
 use lib.ListN.{length, drop}
 use Rattle.modbus.specs.Crc.{crc_from}
-use Rattle.crc.proofs.Turns.{turn, done}
 use Rattle.crc.proofs.single.rest.Given as goal
 
 abbrev pub invariant-loop-i : goal.invariant-loop-i

@@ -10,4 +10,5 @@ bounds-reply-n-2 c = simp length-set (omega arith)
 
 pub returns : goal.returns
 returns c =
-    λ s b e g. (ap Reply (closed-length s b c.args.reply.now c.args.n c.crc-c.result e g c.crc-c.ensures.0), closed s b c.args.reply.now c.args.n c.crc-c.result e g c.crc-c.ensures.0 c.requires)
+    λ s b e g.
+    (ap Reply (closed-length s b c.args.reply.now c.args.n c.crc-c.result e g c.crc-c.ensures.0), closed s b c.args.reply.now c.args.n c.crc-c.result e g c.crc-c.ensures.0 c.requires)

@@ -18,5 +18,8 @@ pub returns : goal.returns
 returns c =
     let e = c.number_in-a.ensures.0 in
     let g = c.number_in-q.ensures.0 in
-    let r = room-1 c.args.f.now c.requires.1 _ _ e g c.requires.0 in
-    (coils-sent c.args.f.now c.requires.1 _ _ e g c.args.m.now c.args.reply.now _ _ c.begin.ensures c.read.ensures, coils-length c.args.f.now c.requires.1 _ _ e g c.args.m.now, omega (arith, r.1))
+    let r = room-1 c.args.f.now c.requires.1 _ _ e g c.requires.0 in (
+      coils-sent c.args.f.now c.requires.1 _ _ e g c.args.m.now c.args.reply.now _ _ c.begin.ensures c.read.ensures,
+      coils-length c.args.f.now c.requires.1 _ _ e g c.args.m.now,
+      omega (arith, r.1),
+    )

@@ -29,4 +29,5 @@ repeat-requires c =
 pub returns : goal.returns
 returns c =
     let l = eight-bytes c.args.f.now c.requires.1.good c.requires.1.fits in
-    told-as _ _ _ _ _ (reply-else c.args.f.now c.args.m.now c.args.d.now c.args.n c.requires.0 c.if-n-eq1.false c.if-n-eq3.false) (c.repeat.ensures, sym (length-take-le 6 c.args.f.now (omega (arith, l))), omega arith)
+    told-as _ _ _ _ _ (reply-else c.args.f.now c.args.m.now c.args.d.now c.args.n c.requires.0 c.if-n-eq1.false c.if-n-eq3.false)
+    (c.repeat.ensures, sym (length-take-le 6 c.args.f.now (omega (arith, l))), omega arith)

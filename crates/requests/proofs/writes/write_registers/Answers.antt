@@ -10,7 +10,8 @@ put_word-requires c = rw (said w64 c.of_bits.type_inv c.of_bits.ensures) (signed
 
 pub returns-then-n-eq6 : goal.returns-then-n-eq6
 returns-then-n-eq6 c =
-    wrote-6 c.args.f.now c.args.n _ _ c.requires.0 c.number_in-a.ensures.0 c.number_in-q.ensures.0 c.args.d.now _ _ c.if-n-eq6.true (said w64 c.of_bits.type_inv c.of_bits.ensures) c.put_word.ensures
+    wrote-6 c.args.f.now c.args.n _ _ c.requires.0 c.number_in-a.ensures.0 c.number_in-q.ensures.0 c.args.d.now _ _ c.if-n-eq6.true
+    (said w64 c.of_bits.type_inv c.of_bits.ensures) c.put_word.ensures
 
 pub write-requires : goal.write-requires
 write-requires c =

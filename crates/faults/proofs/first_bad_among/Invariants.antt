@@ -1,15 +1,11 @@
 -- The loop's invariant: the search from record k on gives what the whole search gives.
-use native.Mathlib.Nat.{sub-zero}
-use borrow.Author.Rules.{rules}
-use mathlib.Core.Path.{◌≡◌, refl, sym, ap, ◌∙◌}
+use mathlib.Core.Path.{◌≡◌}
 use Prim.Native.Nat.{ℕ, ◌+◌, ◌*◌, ◌-◌, ◌≤◌}
-use native.Mathlib.Omega.{arith}
 use Rattle.ec20.specs.Basics.{first_fault}
 use Rattle.ec20.specs.Devices.{ec20}
 use Rattle.ec20.specs.File.{records_from, record_from}
 use Rattle.ec20.specs.Operands.{fault_in, first_bad}
-use Rattle.faults.proofs.First.{turn, found, done}
-use Rattle.faults.proofs.first_bad.Given as goal
+use Rattle.faults.proofs.first_bad_among.Given as goal
 
 abbrev pub invariant-loop-k : goal.invariant-loop-k
 invariant-loop-k l =

@@ -1,14 +1,13 @@
 use native.Mathlib.Nat.{sub-zero}
 use borrow.Author.Rules.{rules}
-use mathlib.Core.Path.{◌≡◌, refl, sym, ap, ◌∙◌}
-use Prim.Native.Nat.{ℕ, ◌+◌, ◌*◌, ◌-◌, ◌≤◌}
+use mathlib.Core.Path.{sym, ap, ◌∙◌}
+use Prim.Native.Nat.{◌-◌}
 use native.Mathlib.Omega.{arith}
-use Rattle.ec20.specs.Basics.{first_fault}
 use Rattle.ec20.specs.Devices.{ec20}
-use Rattle.ec20.specs.File.{records_from, record_from}
-use Rattle.ec20.specs.Operands.{fault_in, first_bad}
+use Rattle.ec20.specs.File.{record_from}
+use Rattle.ec20.specs.Operands.{fault_in}
 use Rattle.faults.proofs.First.{turn, found, done}
-use Rattle.faults.proofs.first_bad.Goals as goal
+use Rattle.faults.proofs.first_bad_among.Goals as goal
 
 pub loop-k-init : goal.loop-k-init
 loop-k-init c = (search rules, rw sub-zero)
