@@ -1,10 +1,7 @@
 -- As many cases differ as were run, at most; what is left of n falls; the tables keep their lengths. Assumes nothing.
 use Prim.Native.Nat.{◌≤◌, ◌-◌}
 use mathlib.Core.Path.{◌≡◌}
-use mathlib.Core.Logic.{⊎_elim}
 use lib.ListN.{length}
-use native.Mathlib.Omega.{arith}
-use borrow.Author.Rules.{rules}
 use Rattle.vectors_requests.proofs.section.Given as goal
 
 abbrev pub invariant-loop-i : goal.invariant-loop-i

@@ -2,7 +2,6 @@
 use mathlib.Core.Path.{refl}
 use native.Mathlib.Omega.{arith}
 use lib.ListN.{length-take}
-use borrow.Author.Rules.{rules}
 use Rattle.vectors_requests.proofs.before.anew.Goals as goal
 
 pub returns-then-rule-gt5 : goal.returns-then-rule-gt5

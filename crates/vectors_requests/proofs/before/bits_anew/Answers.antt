@@ -3,7 +3,6 @@ use mathlib.Core.List.{List}
 use mathlib.Core.Path.{ap, ◌∙◌}
 use Prim.Native.Nat.{ℕ}
 use lib.ListN.{length}
-use borrow.Author.Rules.{rules}
 use Rattle.cases.specs.Filled.{copied}
 use Rattle.vectors_requests.proofs.Made.{made}
 use Rattle.vectors_requests.proofs.before.bits_anew.Goals as goal

@@ -1,7 +1,6 @@
 -- The size is at most the length of the buffer. Assumes nothing.
 use native.Mathlib.Omega.{arith}
 use lib.ListN.{length-take}
-use borrow.Author.Rules.{rules}
 use Rattle.vectors_requests.proofs.before.frame.Goals as goal
 
 pub slice_bounds-read_full-end-then-n-f : goal.slice_bounds-read_full-end-then-n-f

@@ -1,6 +1,5 @@
 -- What is made does not depend on what stood there. Assumes nothing.
 use mathlib.Core.Path.{◌∙◌}
-use borrow.Author.Rules.{rules}
 use Rattle.vectors_requests.proofs.Made.{made}
 use Rattle.vectors_requests.proofs.before.words_anew.Goals as goal
 

@@ -1,7 +1,6 @@
 -- Each size is at most the length of its table. Assumes nothing.
 use native.Mathlib.Omega.{arith}
 use lib.ListN.{length-take}
-use borrow.Author.Rules.{rules}
 use Rattle.vectors_requests.proofs.case.part_called.Goals as goal
 
 pub slice_bounds-called-end : goal.slice_bounds-called-end

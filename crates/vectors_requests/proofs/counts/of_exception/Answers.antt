@@ -1,5 +1,4 @@
 -- By the test. Assumes nothing.
-use borrow.Author.Rules.{rules}
 use Rattle.vectors_requests.proofs.counts.of_exception.Goals as goal
 
 pub returns-then-function-code : goal.returns-then-function-code

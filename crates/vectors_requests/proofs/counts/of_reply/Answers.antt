@@ -1,5 +1,4 @@
 -- By the function's number. Assumes nothing.
-use borrow.Author.Rules.{rules}
 use borrow.Author.Tests.{ne_eqb}
 use Rattle.vectors_requests.specs.Wants.{reply_count}
 use Rattle.vectors_requests.proofs.counts.of_reply.Goals as goal

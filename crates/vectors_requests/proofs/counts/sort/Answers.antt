@@ -1,6 +1,5 @@
 -- By the answer. Assumes nothing.
 use mathlib.Core.Path.{refl}
-use borrow.Author.Rules.{rules}
 use borrow.Author.Tests.{lt-ltb, le-ltb}
 use Rattle.vectors_requests.proofs.counts.sort.Goals as goal
 

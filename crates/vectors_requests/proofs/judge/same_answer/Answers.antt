@@ -1,6 +1,5 @@
 -- In each arm the code is the definition. Assumes nothing.
 use mathlib.Core.Path.{refl}
-use borrow.Author.Rules.{rules}
 use Rattle.vectors_requests.proofs.judge.same_answer.Goals as goal
 
 pub returns-in-Refused : goal.returns-in-Refused

@@ -1,4 +1,4 @@
-use Prim.Native.Nat.{ℕ, ◌≤◌, ◌<◌, ◌-◌, ◌^◌}
+use Prim.Native.Nat.{◌<◌, ◌^◌}
 use mathlib.Core.List.{List}
 use mathlib.Core.Path.{◌≡◌, refl, sym, ap, ◌∙◌}
 use native.Mathlib.Omega.{arith}
@@ -10,7 +10,7 @@ use mir.Facts.{to_z-of_z}
 use mir.Syntax.{w16}
 use mir.Val.{of_z, to_z, hbits}
 use borrow.Author.Count.{below_more}
-use borrow.Author.Rules.{rules, sfits_of}
+use borrow.Author.Rules.{sfits_of}
 use Rattle.ec20.proofs.Tests.{differ}
 use Rattle.vectors_requests.proofs.judge.same_words.Goals as goal
 
