@@ -1,6 +1,6 @@
 /* A host in C: it checks a program, scans it, answers a Modbus request, prints which words of a block it uses, moves the block, exchanges its words, and
-   scans again. The two scans do the same. Then it moves the block's two halves at once, in either order, and back, and salvages the program, torn in its
-   trailer and in its records. Last it tells which declarations of a list clash, and which of two declaration texts holds the longer block.
+   scans again. The two scans do the same. Then it moves the block's two halves at once, in either order, and back. Last it tells which declarations of a
+   list clash, and which of two declaration texts holds the longer block.
    The program stands in memory; a real host reads it from a file. */
 #include "../../include/ninhalto.h"
 #include <stdio.h>
@@ -48,7 +48,7 @@ static void compose(uint8_t file[SIZE]) {
     put(file + 20 * RECORDS + 4, SIZE, 4);
 }
 
-/* ---- the ten calls */
+/* ---- the nine calls */
 
 static size_t check(const uint8_t *file, size_t size) {
     size_t number, at, records, steps;
@@ -118,21 +118,6 @@ static int job(const uint8_t *file, const struct memory *c) {
     return same;
 }
 
-static size_t saved(const uint8_t *torn, size_t size, uint8_t out[SIZE]) {
-    size_t number, at, kept, added, rest;
-    ninhalto_salvage(torn, size, out, SIZE, &number, &at, &kept, &added, &rest);
-    printf("salvage: refusal %zu at %zu, kept %zu, added %zu, rest %zu\n", number, at, kept, added, rest);
-    return number ? 0 : 20 * (kept + added) + 8;
-}
-
-/* Without its trailer the program comes back as it was. Cut in its fourth record, three are left, and END is added. */
-static int salvage(const uint8_t *file) {
-    uint8_t out[SIZE];
-    int same = saved(file, SIZE - 8, out) == SIZE && !memcmp(out, file, SIZE);
-    puts(same ? "every byte is back" : "bytes are lost");
-    return !check(out, saved(file, 70, out)) && same;
-}
-
 /* A master reads the first five words of the block: station 1, function 3, address, quantity, CRC. */
 static void answer(struct memory *c) {
     static const uint8_t request[] = {0x01, 0x03, 0x00, 0x64, 0x00, 0x05, 0xc4, 0x16};
@@ -193,7 +178,6 @@ int main(void) {
     int same = !memcmp(&before, &after, sizeof before) && !memcmp(told, told_after, sizeof told);
     puts(same ? "the moved program does the same" : "the moved program does otherwise");
     same = job(file, &before) && same;
-    same = salvage(file) && same;
     clashes();
     longer();
     return !same;

@@ -1,6 +1,6 @@
 -- Calls, numbers and commands, computed by the definitions. Assumes nothing.
-use Rattle.std.proofs.Common.{◌≡◌, ℕ, false, List, [], ◌∷◌, refl}
-use Rattle.calls.specs.Asked.{names, picture, fits_of, is_picture, command_by, command_of}
+use Rattle.std.proofs.Common.{◌≡◌, ℕ, true, false, List, [], ◌∷◌, refl}
+use Rattle.calls.specs.Asked.{names, picture, fits_of, is_picture, command_by, command_of, salvage_word, is_salvage}
 use Rattle.calls.specs.Numbers.{all_digits, digits_after, is_number, number_of}
 use Rattle.calls.specs.Text.{until_zero, after_zero, rest_at, word_of, count_of, same_word, which_from}
 
@@ -13,8 +13,8 @@ unfolding until_zero after_zero rest_at count_of
 words = (refl, refl, refl)
 
 -- a picture; no command with a word too few; a job; a salvage
-commands : (command_of call ≡ 14) × (command_of (109 ∷ 111 ∷ 118 ∷ 101 ∷ 0 ∷ []) ≡ 13) × (command_of (99 ∷ 104 ∷ 101 ∷ 99 ∷ 107 ∷ 0 ∷ 102 ∷ 0 ∷ []) ≡ 0) × (command_of (106 ∷ 111 ∷ 98 ∷ 0 ∷ 102 ∷ 0 ∷ 103 ∷ 0 ∷ []) ≡ 11) × (command_of (115 ∷ 97 ∷ 108 ∷ 118 ∷ 97 ∷ 103 ∷ 101 ∷ 0 ∷ 102 ∷ 0 ∷ 103 ∷ 0 ∷ []) ≡ 12)
-unfolding until_zero after_zero rest_at count_of same_word which_from names picture fits_of is_picture command_by command_of
+commands : (command_of call ≡ 13) × (command_of (109 ∷ 111 ∷ 118 ∷ 101 ∷ 0 ∷ []) ≡ 12) × (command_of (99 ∷ 104 ∷ 101 ∷ 99 ∷ 107 ∷ 0 ∷ 102 ∷ 0 ∷ []) ≡ 0) × (command_of (106 ∷ 111 ∷ 98 ∷ 0 ∷ 102 ∷ 0 ∷ 103 ∷ 0 ∷ []) ≡ 11) × (is_salvage (115 ∷ 97 ∷ 108 ∷ 118 ∷ 97 ∷ 103 ∷ 101 ∷ 0 ∷ 102 ∷ 0 ∷ 103 ∷ 0 ∷ []) ≡ true)
+unfolding until_zero after_zero rest_at count_of same_word which_from names picture fits_of is_picture command_by command_of salvage_word is_salvage
 commands = (refl, refl, refl, refl, refl)
 
 -- 4294967295 is one, 4294967296 is none; 007 is 7; no digit, and 1a

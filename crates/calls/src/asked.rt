@@ -1,5 +1,5 @@
 // Which command a call asks for.
-ghost use Rattle.calls.specs.Asked.{fits_of, command_of};
+ghost use Rattle.calls.specs.Asked.{fits_of, command_of, is_salvage};
 ghost use Rattle.std.specs.Prelude.{◌≡◌};
 
 use crate::text;
@@ -30,11 +30,9 @@ pub const LONGER: usize = 10;
 
 pub const JOB: usize = 11;
 
-pub const SALVAGE: usize = 12;
+pub const NONE: usize = 12;
 
-pub const NONE: usize = 13;
-
-pub const PICTURE: usize = 14;
+pub const PICTURE: usize = 13;
 
 // Whether a call of so many words is one of the command.
 fn fits(command: usize, count: usize) -> bool
@@ -53,7 +51,6 @@ fn fits(command: usize, count: usize) -> bool
         9 => (count == 2) | (count == 3),
         10 => count == 3,
         11 => (count == 3) | (count == 4),
-        12 => count == 3,
         _ => false,
     }
 }
@@ -64,7 +61,7 @@ pub fn command(call: &[u8]) -> usize
 {
     let command = text::which(
         text::word(call, 0),
-        b"check\0map\0move\0exchange\0scan\0trial\0demo\0answer\0slave\0clashes\0longer\0job\0salvage\0",
+        b"check\0map\0move\0exchange\0scan\0trial\0demo\0answer\0slave\0clashes\0longer\0job\0",
         NONE,
     );
     let count = text::count(call);
@@ -75,4 +72,12 @@ pub fn command(call: &[u8]) -> usize
         return PICTURE;
     }
     NONE
+}
+
+// Whether it is a call of salvage, which the list of names does not have.
+pub fn salvages(call: &[u8]) -> bool
+    ensures { result ≡ is_salvage call.now }
+{
+    let named = same(text::word(call, 0), b"salvage");
+    named & (text::count(call) == 3)
 }

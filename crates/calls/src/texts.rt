@@ -314,7 +314,7 @@ BUDGET: no number from 0 to 4294967295\n\0\
 SCANS: no number from 0 to 4294967295\n\0\
 ninhalto: the answer could not be written\n\0\
 ninhalto: the call is too long\n\0\
-usage: ninhalto check FILE, map [--picture] FILE, scan FILE MEMORY ELAPSED [BUDGET], move FILE START LENGTH POOLSTART POOLEND, exchange MEMORY START LENGTH PLACE, job FILE JOB [MEMORY], salvage TORN OUT, answer MEMORY STATION REQUEST, slave [--quiet] FILE MEMORY DEVICE STATION [SECONDS], clashes UNITS [FILE], longer TEXT1 TEXT2, trial OLD START LENGTH POOLSTART POOLEND MEMORY SCANS, demo, or help\n\0\
+usage: ninhalto check FILE, map [--picture] FILE, scan FILE MEMORY ELAPSED [BUDGET], move FILE START LENGTH POOLSTART POOLEND, exchange MEMORY START LENGTH PLACE, job FILE JOB [MEMORY], answer MEMORY STATION REQUEST, slave [--quiet] FILE MEMORY DEVICE STATION [SECONDS], clashes UNITS [FILE], longer TEXT1 TEXT2, trial OLD START LENGTH POOLSTART POOLEND MEMORY SCANS, demo, or help\n\0\
 %\n\0% replaced\n\0\
 : the station is not from 1 to 247\n\0\
 STATION: no number from 0 to 4294967295\n\0\

@@ -41,7 +41,7 @@ pub fn run(
     if command == asked::ANSWER {
         return answers::run(rt, call, out, err);
     }
-    if command == asked::SALVAGE {
+    if asked::salvages(call) {
         return salvages::run(rt, call, out, err);
     }
     report::usage(err)

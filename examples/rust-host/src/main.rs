@@ -1,11 +1,10 @@
 //! A host in Rust: it checks a program, scans it, answers a Modbus request, prints which words of a block it uses, moves the block, exchanges its
-//! words, and scans again. The two scans do the same. Then it moves the block's two halves at once, in either order, and back, and salvages the program,
-//! torn in its trailer and in its records. Last it tells which declarations of a list clash, and which of two declaration texts holds the longer block.
-//! The program stands in memory; a real host reads it from a file.
+//! words, and scans again. The two scans do the same. Then it moves the block's two halves at once, in either order, and back. Last it tells which
+//! declarations of a list clash, and which of two declaration texts holds the longer block. The program stands in memory; a real host reads it from a file.
 
 mod ninhalto;
 
-use ninhalto::{Declaration, Memory, Refusal, Salvaged, Told, UseMap};
+use ninhalto::{Declaration, Memory, Refusal, Told, UseMap};
 
 const BLOCK: u32 = 100;
 const LENGTH: u32 = 10;
@@ -107,25 +106,8 @@ fn job(file: &[u8], memory: &Memory) -> Result<bool, Refusal> {
     let same = first == second && one == two && first != file;
     ninhalto::job(&mut first, &mut one, &[[400, 5, 100], [300, 5, 105]])?;
     let same = same && first == file && one == memory.d;
-    println!(
-        "{}",
-        if same { "in either order the same, and back again" } else { "the order shows" }
-    );
+    println!("{}", if same { "in either order the same, and back again" } else { "the order shows" });
     Ok(same)
-}
-
-fn saved<'a>(torn: &[u8], out: &'a mut [u8]) -> Result<&'a [u8], Refusal> {
-    let Salvaged { file, kept, added, rest } = ninhalto::salvage(torn, out)?;
-    println!("salvage: refusal 0 at 0, kept {kept}, added {added}, rest {rest}");
-    Ok(file)
-}
-
-/// Without its trailer the program comes back as it was. Cut in its fourth record, three are left, and END is added.
-fn salvage(file: &[u8]) -> Result<bool, Refusal> {
-    let mut out = vec![0; file.len()];
-    let same = saved(&file[..file.len() - 8], &mut out)? == file;
-    println!("{}", if same { "every byte is back" } else { "bytes are lost" });
-    Ok(check(saved(&file[..70], &mut out)?) && same)
 }
 
 /// A master reads the first five words of the block: station 1, function 3, address, quantity, CRC.
@@ -206,7 +188,7 @@ fn main() -> Result<(), Refusal> {
         std::process::exit(1);
     }
     println!("the moved program does the same");
-    if !job(&file, &before)? || !salvage(&file)? {
+    if !job(&file, &before)? {
         std::process::exit(1);
     }
     clashes()?;

@@ -29,14 +29,6 @@ pub struct UseMap {
     pub written: [u8; 1000],
 }
 
-/// What is salvaged: the file, at the start of the output; the records kept, the END records added, 0 or 1, and the bytes after those kept.
-pub struct Salvaged<'a> {
-    pub file: &'a [u8],
-    pub kept: usize,
-    pub added: usize,
-    pub rest: usize,
-}
-
 /// A unit's declaration of a block of D words.
 #[repr(C)]
 pub struct Declaration {
@@ -117,17 +109,6 @@ extern "C" {
         at: &mut usize,
         line: &mut usize,
         other: &mut usize,
-    );
-    fn ninhalto_salvage(
-        torn: *const u8,
-        size: usize,
-        out: *mut u8,
-        out_size: usize,
-        number: &mut usize,
-        at: &mut usize,
-        kept: &mut usize,
-        added: &mut usize,
-        rest: &mut usize,
     );
     fn ninhalto_answer(
         station: u32,
@@ -277,26 +258,6 @@ pub fn job(file: &mut [u8], d: &mut [i16], lines: &[[u32; 3]]) -> Result<(), Ref
         )
     }
     unless_refused(number, at, ())
-}
-
-/// What is kept of a torn file, as a proper file at the start of the output; 40,008 bytes are always enough.
-pub fn salvage<'a>(torn: &[u8], out: &'a mut [u8]) -> Result<Salvaged<'a>, Refusal> {
-    let (mut number, mut at, mut kept, mut added, mut rest) = (0, 0, 0, 0, 0);
-    unsafe {
-        ninhalto_salvage(
-            torn.as_ptr(),
-            torn.len(),
-            out.as_mut_ptr(),
-            out.len(),
-            &mut number,
-            &mut at,
-            &mut kept,
-            &mut added,
-            &mut rest,
-        )
-    }
-    unless_refused(number, at, ())?;
-    Ok(Salvaged { file: &out[..20 * (kept + added) + 8], kept, added, rest })
 }
 
 /// The bytes of the reply to a Modbus request, at the start of the buffer; none where nothing is to be sent.

@@ -52,9 +52,5 @@ pub returns-in-11 : goal.returns-in-11
 unfolding fits_of
 returns-in-11 c = rw c.in-11.is refl
 
-pub returns-in-12 : goal.returns-in-12
-unfolding fits_of
-returns-in-12 c = rw c.in-12.is refl
-
 pub returns-in_default : goal.returns-in_default
 returns-in_default c = fits-none _ _ _ c.in_default.in_default-own.rest
