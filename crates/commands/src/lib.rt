@@ -6,7 +6,7 @@
 mod scan;
 mod trial;
 
-ghost use Rattle.std.specs.Prelude.{eqb, ◌||◌, ◌≡◌};
+ghost use Rattle.std.specs.Prelude.{◌≡◌, ◌||◌, ◌==◌};
 
 use calls::asked;
 use calls::results::Outcome;
@@ -15,7 +15,7 @@ use std::rt::Files;
 
 // Whether the command is one of these.
 pub fn scans(command: usize) -> bool
-    ensures { result ≡ (eqb command 4 || eqb command 5 || eqb command 6) }
+    ensures { result ≡ (command == 4 || command == 5 || command == 6) }
 {
     (command == asked::SCAN) | (command == asked::TRIAL) | (command == asked::DEMO)
 }

@@ -26,7 +26,7 @@ pub struct State<'a> {
 
 // One scan was made. All four moments are the one that the clock tells.
 pub fn begun<'a>(rt: &impl Clock, device: &'a File, stop: Option<&'a File>) -> State<'a>
-    ensures device_value { (result.device ≡ device) × (result.stop ≡ stop) × (result.counted ≡ result.begun) × (result.heard ≡ result.begun) × (result.shown ≡ result.begun) }
+    ensures device_value { (result.device ≡ device.entry) × (result.stop ≡ stop.entry) × (result.counted ≡ result.begun) × (result.heard ≡ result.begun) × (result.shown ≡ result.begun) }
     ensures held_value { (result.held ≡ 0) × (result.came ≡ 0) × (result.scans ≡ 1) × (result.requests ≡ 0) × (result.replies ≡ 0) × (result.silent ≡ 0) × (result.over ≡ false) }
 {
     let now = clock::milliseconds(rt);

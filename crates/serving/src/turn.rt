@@ -63,15 +63,19 @@ fn read<'a>(rt: &impl Clock, held: &mut [u8], s0: State<'a>) -> State<'a> {
     let mut s = s0;
     let mut bytes = io::buffer();
     let mut device = s.device;
-    let got = device.read(&mut bytes);
-    let failed = got.is_err();
-    let n = got.unwrap_or(0);
+    s.over = false;
+    let n = match device.read(&mut bytes) {
+        Ok(n) => n,
+        Err(_) => {
+            s.over = true;
+            0
+        }
+    };
     s.came = n;
     s.held = held::more(held, s.held, &bytes[..n]);
     if n > 0 {
         s.heard = clock::milliseconds(rt);
     }
-    s.over = failed;
     s
 }
 
