@@ -1,12 +1,8 @@
 -- Each arm is its rule's bytes; past the rules nothing is stored. Assumes nothing.
-use Rattle.std.proofs.Common.{◌≡◌, ℕ, ◌≤◌, length, sym, arith}
+use Rattle.std.proofs.Common.{◌≡◌, length, sym, arith}
 use lib.ListN.{get_or-eq_default}
 use Rattle.cases.specs.Drawn.{ruled, filled_by}
 use Rattle.cases.proofs.drawing.fill.Goals as goal
-
--- the last arm's rule
-last : (n : ℕ) → n ≤ 5 → (n ≡ 0 → ⊥) → (n ≡ 1 → ⊥) → (n ≡ 2 → ⊥) → (n ≡ 3 → ⊥) → (n ≡ 4 → ⊥) → n ≡ 5
-last n h a b c d e = omega arith
 
 pub returns-then-rule-gt5 : goal.returns-then-rule-gt5
 unfolding filled_by ruled
@@ -37,7 +33,5 @@ returns-in-4 c = rw c.in-4.is c.rising-in-4.ensures
 pub returns-in_default : goal.returns-in_default
 unfolding filled_by ruled
 returns-in_default c =
-    let r = c.in_default.in_default-own.rest in
-    let h = c.if-rule-gt5.false in
-    let e = last _ h r.0.0.0.0.1 r.0.0.0.1 r.0.0.1 r.0.1 r.1 in
+    let e : c.args.rule ≡ 5 = omega arith in
     rw e c.draw-in_default.ensures

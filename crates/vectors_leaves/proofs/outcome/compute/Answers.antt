@@ -70,18 +70,17 @@ pub returns-in_default : goal.returns-in_default
 unfolding compute_of
 returns-in_default c =
     let n = c.args.n in
-    let r = c.in_default.in_default-own.rest in
     c.stored.ensures
     ∙ ap value (to_z-of_z c.ranges.a)
     ∙ sym
     (rw (
-      neither n 33 49 r.0.0.0.0.0.0.0.0.1,
-      neither n 34 50 r.0.0.0.0.0.0.0.1,
-      neither n 35 52 r.0.0.0.0.0.0.1,
-      neither n 36 53 r.0.0.0.0.0.1,
-      neither n 37 54 r.0.0.0.0.1,
-      neither n 38 55 r.0.0.0.1,
-      ne_eqb n 39 r.0.0.1,
-      ne_eqb n 40 r.0.1,
-      ne_eqb n 51 r.1,
+      neither n 33 49 (omega arith),
+      neither n 34 50 (omega arith),
+      neither n 35 52 (omega arith),
+      neither n 36 53 (omega arith),
+      neither n 37 54 (omega arith),
+      neither n 38 55 (omega arith),
+      ne_eqb n 39 (omega arith),
+      ne_eqb n 40 (omega arith),
+      ne_eqb n 51 (omega arith),
     ))

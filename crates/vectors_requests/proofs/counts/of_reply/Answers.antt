@@ -1,4 +1,5 @@
 -- By the function's number. Assumes nothing.
+use native.Mathlib.Omega.{arith}
 use borrow.Author.Tests.{ne_eqb}
 use Rattle.vectors_requests.specs.Wants.{reply_count}
 use Rattle.vectors_requests.proofs.counts.of_reply.Goals as goal
@@ -31,13 +32,12 @@ pub returns-in_default : goal.returns-in_default
 unfolding reply_count
 returns-in_default c =
     let n = c.args.function in
-    let r = c.in_default.in_default-own.rest in
     rw (
-      ne_eqb n 1 r.0.0.0.0.0.1,
-      ne_eqb n 3 r.0.0.0.0.1,
-      ne_eqb n 5 r.0.0.0.1,
-      ne_eqb n 6 r.0.0.1,
-      ne_eqb n 15 r.0.1,
-      ne_eqb n 16 r.1,
+      ne_eqb n 1 (omega arith),
+      ne_eqb n 3 (omega arith),
+      ne_eqb n 5 (omega arith),
+      ne_eqb n 6 (omega arith),
+      ne_eqb n 15 (omega arith),
+      ne_eqb n 16 (omega arith),
     )
     c.of_exception.ensures

@@ -1,4 +1,5 @@
 -- By the kind. Assumes nothing.
+use native.Mathlib.Omega.{arith}
 use borrow.Author.Tests.{ne_eqb}
 use Rattle.vectors_scans.proofs.counts.of_answer.Goals as goal
 
@@ -9,4 +10,4 @@ pub returns-in-1 : goal.returns-in-1
 returns-in-1 c = rw c.in-1.is
 
 pub returns-in_default : goal.returns-in_default
-returns-in_default c = let r = c.in_default.in_default-own.rest in rw (ne_eqb _ 0 r.0.1, ne_eqb _ 1 r.1)
+returns-in_default c = rw (ne_eqb c.args.w.kind 0 (omega arith), ne_eqb c.args.w.kind 1 (omega arith))

@@ -1,4 +1,5 @@
 -- By the budget. Assumes nothing.
+use native.Mathlib.Omega.{arith}
 use borrow.Author.Tests.{ne_eqb}
 use Rattle.vectors_scans.proofs.counts.of_budget.Goals as goal
 
@@ -12,4 +13,4 @@ pub returns-in-4294967295 : goal.returns-in-4294967295
 returns-in-4294967295 c = rw c.in-4294967295.is
 
 pub returns-in_default : goal.returns-in_default
-returns-in_default c = let r = c.in_default.in_default-own.rest in rw (ne_eqb _ 0 r.0.0.1, ne_eqb _ 1 r.0.1, ne_eqb _ 4294967295 r.1)
+returns-in_default c = rw (ne_eqb c.args.budget 0 (omega arith), ne_eqb c.args.budget 1 (omega arith), ne_eqb c.args.budget 4294967295 (omega arith))

@@ -1,4 +1,5 @@
 -- By the error. Assumes nothing.
+use native.Mathlib.Omega.{arith}
 use borrow.Author.Tests.{ne_eqb}
 use Rattle.vectors_scans.proofs.counts.of_error.Goals as goal
 
@@ -9,4 +10,4 @@ pub returns-in-2 : goal.returns-in-2
 returns-in-2 c = rw c.in-2.is
 
 pub returns-in_default : goal.returns-in_default
-returns-in_default c = let r = c.in_default.in_default-own.rest in rw (ne_eqb _ 1 r.0.1, ne_eqb _ 2 r.1)
+returns-in_default c = rw (ne_eqb c.args.error 1 (omega arith), ne_eqb c.args.error 2 (omega arith))

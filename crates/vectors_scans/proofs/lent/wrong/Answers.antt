@@ -13,4 +13,4 @@ pub returns-in-1 : goal.returns-in-1
 returns-in-1 c = rw c.in-1.is
 
 pub returns-in_default : goal.returns-in_default
-returns-in_default c = let r = c.in_default.in_default-own.rest in rw (ne_eqb _ 0 r.0.1, ne_eqb _ 1 r.1)
+returns-in_default c = rw (ne_eqb c.args.way 0 (omega arith), ne_eqb c.args.way 1 (omega arith))
