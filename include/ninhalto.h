@@ -1,7 +1,7 @@
 /* Ninhalto for C: check, scan, use map, move, exchange, jobs and salvage of programs of the EC20 series, answers to Modbus requests, and the clashes
    of declared blocks.
 
-   The library is target/staticlib/libhost.a, which `rt staticlib host` proves and writes, for x86-64. Each function is proved to do, for every
+   The library is crates/host/out/libhost.a, which `rt lib` in crates/host proves and writes, for x86-64. Each function is proved to do, for every
    input, what its definition says (crates/host/src, crates/ec20/specs, crates/modbus/specs, crates/units/specs, crates/jobs/specs,
    crates/torn/specs); the words here say the same in short.
 
