@@ -217,12 +217,26 @@ fn create_new<R: Files>(rt: &R, name: &[u8]) -> Result<R::File> {
     how.open(rt, text_of(name)?)
 }
 
+// For the letters of a new name: what the system draws, or, where it draws none, the number of the try.
+fn drawn(rt: &impl RandomSource, k: u32) -> [u8; 6] {
+    let mut letters = [0u8; 6];
+    if rt.fill_bytes(&mut letters).is_err() {
+        return [
+            0,
+            0,
+            0,
+            (k / 2704 % 52) as u8,
+            (k / 52 % 52) as u8,
+            (k % 52) as u8,
+        ];
+    }
+    letters
+}
+
 // The same under one of the names beside the path, of which so many are tried.
 fn create_beside<R: Files + RandomSource>(rt: &R, path: &[u8], name: &mut [u8]) -> Result<R::File> {
-    for _ in 0..TRIES {
-        let mut drawn = [0u8; 6];
-        rt.fill_bytes(&mut drawn)?;
-        name_beside(path, name, drawn);
+    for k in 0..TRIES {
+        name_beside(path, name, drawn(rt, k));
         match create_new(rt, name) {
             Err(why) if why.kind() == ErrorKind::AlreadyExists => {}
             done => return done,

@@ -1,4 +1,4 @@
-// Ninhalto for a host program in C or Rust: the static library that `rt staticlib host` writes; include/ninhalto.h says it to C. A host lends
+// Ninhalto for a host program in C or Rust: the static library that `rt lib` writes here; include/ninhalto.h says it to C. A host lends
 // the bytes of a file or a text, a list, the tables and the numbers to write, none of which overlap. Each function asks nothing more.
 #![tactic(auto)]
 

@@ -15,7 +15,7 @@ use calls::{files, results, text, texts};
 use ec20::Scanned;
 use engine::Ready;
 use memories::tables;
-use state::State;
+use state::{Counts, State};
 use std::fs::File;
 use std::random::RandomSource;
 use std::rt::{Clock, Files};
@@ -56,7 +56,7 @@ fn turns<'a>(
 fn tell(
     rt: &(impl Files + RandomSource),
     call: &[u8],
-    s: State<'_>,
+    s: Counts,
     image: &[u8; 16892],
     out: i32,
     err: i32,
@@ -68,8 +68,8 @@ fn tell(
     results::not_tried()
 }
 
-// The line is opened, and served until the end.
-fn serve<R: Files<File = File> + RandomSource + Clock>(
+// The line is opened, served until the end, and closed.
+fn served<R: Files<File = File> + Clock>(
     rt: &R,
     call: &[u8],
     f: &[u8],
@@ -77,14 +77,13 @@ fn serve<R: Files<File = File> + RandomSource + Clock>(
     goes: &[usize; 2000],
     image: &mut [u8; 16892],
     w: Wanted,
-    out: i32,
     err: i32,
-) -> Outcome
+) -> Option<Counts>
     requires made { Made f.now p }
     requires goes { Goes f.now p goes.now }
 {
     let Some(device) = files::open(rt, text::word(call, 3), err) else {
-        return results::not_tried();
+        return None;
     };
     let stop = files::open_read(rt, text::word(call, 7)).ok();
     let mut held = state::room();
@@ -99,7 +98,33 @@ fn serve<R: Files<File = File> + RandomSource + Clock>(
         state::begun(rt, &device, stop.as_ref()),
         err,
     );
-    tell(rt, call, s, image, out, err)
+    Some(Counts {
+        scans: s.scans,
+        requests: s.requests,
+        replies: s.replies,
+        silent: s.silent,
+    })
+}
+
+// What came of it is told when the line is closed.
+fn serve<R: Files<File = File> + RandomSource + Clock>(
+    rt: &R,
+    call: &[u8],
+    f: &[u8],
+    p: Ready,
+    goes: &[usize; 2000],
+    image: &mut [u8; 16892],
+    w: Wanted,
+    out: i32,
+    err: i32,
+) -> Outcome
+    requires made { Made f.now p }
+    requires goes { Goes f.now p goes.now }
+{
+    match served(rt, call, f, p, goes, image, w, err) {
+        Some(s) => tell(rt, call, s, image, out, err),
+        None => results::not_tried(),
+    }
 }
 
 // 1 to 8 are told of the program file, word 1; 9 and 16 of the memory file, word 2, which has so many bytes.

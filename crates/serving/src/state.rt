@@ -24,6 +24,15 @@ pub struct State<'a> {
     pub over: bool,
 }
 
+// What is told at the end.
+#[derive(Clone, Copy)]
+pub struct Counts {
+    pub scans: usize,
+    pub requests: usize,
+    pub replies: usize,
+    pub silent: usize,
+}
+
 // One scan was made. All four moments are the one that the clock tells.
 pub fn begun<'a>(rt: &impl Clock, device: &'a File, stop: Option<&'a File>) -> State<'a>
     ensures device_value { (result.device ≡ device.entry) × (result.stop ≡ stop.entry) × (result.counted ≡ result.begun) × (result.heard ≡ result.begun) × (result.shown ≡ result.begun) }
