@@ -11,8 +11,8 @@ use borrow.Author.Tests.{lt-ltb, le-ltb, le-leb, lt-leb}
 use Rattle.ec20.specs.Basics.{then}
 use Rattle.ec20.specs.Devices.{ec20}
 use Rattle.ec20.specs.Move.{block_fault}
-use Rattle.ec20.specs.declared.Judged.{Judged}
-use Rattle.ec20.specs.declared.Judged.TheVariants.{Fine, Fault}
+use Rattle.ec20.specs.Judged.{Judged}
+use Rattle.ec20.specs.Judged.{Fine, Fault}
 use Rattle.units.specs.Clash.{Declared}
 use Rattle.units.specs.Report.{clashes_of, block_of, blocks_fault, list_fault, room_fault, judge_clashes, Reported, reported, filled, report_of}
 use Rattle.units.specs.declared.Clashed.{Clashed}

@@ -10,7 +10,7 @@ use native.Mathlib.Omega.{arith}
 use lib.ListN.{length, get_or}
 use borrow.Author.Tests.{eq-eqb, ne_eqb}
 use Rattle.ec20.specs.Basics.{then}
-use Rattle.ec20.specs.declared.Judged.{Judged}
+use Rattle.ec20.specs.Judged.{Judged}
 use Rattle.units.specs.Clash.{Declared, clash_of}
 use Rattle.units.specs.Report.{pair, clashes_of, list_fault, room_fault, judge_clashes}
 use Rattle.agreed.specs.Agreed.{entry, Clash, Told, Wrong, Line10, over_64, block, exchanged, swapped, ToldOf, Swapped}

@@ -3,8 +3,8 @@ use Rattle.std.proofs.Common.{◌≡◌, ℕ, ◌<◌, ◌≤◌, List, sym, ap,
 use Rattle.demands.proofs.Lines.{some_word}
 use Rattle.demands.proofs.MoveAnswers.{move_numbers}
 use Rattle.demands.proofs.Places.{pool_end}
-use Rattle.ec20.specs.declared.Moved.{Moved}
-use Rattle.ec20.specs.declared.Moved.TheVariants.{To}
+use Rattle.ec20.specs.Moved.{Moved}
+use Rattle.ec20.specs.Moved.{To}
 use Rattle.ec20.specs.Devices.{ec20}
 use Rattle.ec20.specs.Move.{Block, Pool, Move, move, move_of}
 use Rattle.turns.specs.Turns.{MovedTo}

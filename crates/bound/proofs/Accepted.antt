@@ -5,12 +5,13 @@ use mathlib.Core.Path.{◌≡◌, refl, sym, ap, ◌∙◌}
 use native.Mathlib.Omega.{arith}
 use lib.Dec.{leb}
 use borrow.Author.Tests.{leb-true}
-use Rattle.ec20.specs.declared.Found.{Found}
-use Rattle.ec20.specs.declared.Found.TheVariants.{At, Nowhere}
-use Rattle.ec20.specs.declared.Judged.TheVariants.{Fine}
-use Rattle.ec20.specs.declared.Verdict.TheVariants.{Accepted}
-use Rattle.ec20.specs.declared.Walked.{Walked}
-use Rattle.ec20.specs.declared.Walked.TheVariants.{Done, Bad}
+use Rattle.std.specs.Prelude.{Ok}
+use Rattle.ec20.specs.Found.{Found}
+use Rattle.ec20.specs.Found.{At, Nowhere}
+use Rattle.ec20.specs.Judged.{Fine}
+use Rattle.ec20.specs.Verdict.{Accepted}
+use Rattle.ec20.specs.Walked.{Walked}
+use Rattle.ec20.specs.Walked.{Done, Bad}
 use Rattle.ec20.specs.Basics.{refused_at, then}
 use Rattle.ec20.specs.Devices.{Device}
 use Rattle.ec20.specs.Code.{Program, program_of}
@@ -32,7 +33,7 @@ none-refused m Nowhere e = refl
 
 -- a walk that refuses nothing
 pub sound-walk : (x : Walked) → unsound x ≡ Fine → (m : ℕ) × (x ≡ Done m (steps_walked x))
-sound-walk (Done m w) e = (m, refl)
+sound-walk (Ok a) e = (a.next, refl)
 sound-walk (Bad k) e = let z : ◌≡◌ {A = ℕ} 0 1 = cc in absurd (omega arith)
 
 few-steps : (w : ℕ) → too_long w ≡ Fine → w ≤ 10000000

@@ -6,7 +6,7 @@ use mathlib.Core.Path.{◌≡◌, refl}
 use native.Mathlib.Omega.{arith}
 use lib.ListN.{replicate}
 use Rattle.ec20.specs.declared.Units.{Units}
-use Rattle.ec20.specs.declared.Verdict.TheVariants.{Accepted}
+use Rattle.ec20.specs.Verdict.{Accepted}
 use Rattle.ec20.specs.declared.Control.TheVariants.{Jumps}
 use Rattle.ec20.specs.Basics.{some_below}
 use Rattle.ec20.specs.Devices.{ec20}

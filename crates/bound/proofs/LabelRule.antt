@@ -8,8 +8,8 @@ use lib.ListN.{length}
 use borrow.Author.Tests.{eq-eqb}
 use Rattle.ec20.specs.declared.Control.{Control}
 use Rattle.ec20.specs.declared.Control.TheVariants.{Jumps}
-use Rattle.ec20.specs.declared.Found.TheVariants.{At}
-use Rattle.ec20.specs.declared.Walked.TheVariants.{Done}
+use Rattle.ec20.specs.Found.{At}
+use Rattle.ec20.specs.Walked.{Done}
 use Rattle.ec20.specs.Control.{Controls, marks, found_in_body, first_label}
 use Rattle.ec20.specs.Walkers.{sequence_of, walk_of}
 use Rattle.ec20.specs.Labels.{same, label_fault, opens_of, Stands}

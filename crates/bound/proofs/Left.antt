@@ -5,7 +5,7 @@ use mathlib.Core.Path.{◌≡◌, refl, sym, ap, ◌∙◌}
 use native.Mathlib.Omega.{arith}
 use lib.ListN.{length}
 use Rattle.ec20.specs.declared.Control.TheVariants.{Closes, Ends}
-use Rattle.ec20.specs.declared.Found.TheVariants.{Nowhere}
+use Rattle.ec20.specs.Found.{Nowhere}
 use Rattle.ec20.specs.Control.{Controls, marks, found_in_body}
 use Rattle.ec20.specs.Labels.{opens_of}
 use Rattle.bound.specs.Small.{Frame, frame, State, start}

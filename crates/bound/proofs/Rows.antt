@@ -5,12 +5,13 @@ use native.Mathlib.Omega.{arith}
 use native.Mathlib.Numerals.{add-one}
 use lib.Dec.{eqb, ltb}
 use borrow.Author.Tests.{ltb-true, eqb-true, eqb-false}
+use Rattle.std.specs.Prelude.{Ok}
 use Rattle.ec20.specs.declared.Control.{Control}
 use Rattle.ec20.specs.declared.Control.TheVariants.{Plain, Opens, Closes, Jumps, Marks, Ends}
 use Rattle.ec20.specs.declared.Act.{Act}
 use Rattle.ec20.specs.declared.Act.TheVariants.{Go, Enter, Leave, Finish, Refuse}
-use Rattle.ec20.specs.declared.Walked.{Walked}
-use Rattle.ec20.specs.declared.Walked.TheVariants.{Done, Bad}
+use Rattle.ec20.specs.Walked.{Walked}
+use Rattle.ec20.specs.Walked.{Done, Bad}
 use Rattle.ec20.specs.Control.{Controls}
 use Rattle.ec20.proofs.Tests.{picked}
 use Rattle.ec20.specs.Walkers.{last_act, mid_act, act_of, plus, follow, by_act, sequence_of}
@@ -92,7 +93,7 @@ module _ (code : Controls) (count : ℕ) where
 
   plus-done : (s : ℕ) (x : Walked) {m w : ℕ} → plus s x ≡ Done m w → (u : ℕ) × (x ≡ Done m u) × (w ≡ s + u)
   unfolding plus
-  plus-done s (Done m' u) {m} {w} e = (u, ap (λ (j : ℕ). Done j u) (let z : m' ≡ m = cc in z), let z : s + u ≡ w = cc in sym z)
+  plus-done s (Ok a) {m} {w} e = (a.steps, ap (λ (j : ℕ). Done j a.steps) (let z : a.next ≡ m = cc in z), let z : s + a.steps ≡ w = cc in sym z)
   plus-done s (Bad k) e = let z : ◌≡◌ {A = ℕ} 0 1 = cc in absurd (omega arith)
 
   abbrev pub Walks : (ℕ → ℕ → Walked) → Type 0
@@ -103,14 +104,14 @@ module _ (code : Controls) (count : ℕ) where
       → follow t x (λ j. walk j d) ≡ Done m w → Complete code count d k m w
   unfolding follow
   after-loop t k d m w walk ih q r h (Bad b) ex e = let z : ◌≡◌ {A = ℕ} 0 1 = cc in absurd (omega arith)
-  after-loop t k d m w walk ih q r h (Done b v) ex e =
-      body (rw (add-one d) at (ih (k + 1) (d + 1) b v h ex)) (plus-done (1 + t * (v + 1)) (walk (b + 1) d) e)
+  after-loop t k d m w walk ih q r h (Ok a) ex e =
+      body (rw (add-one d) at (ih (k + 1) (d + 1) a.next a.steps h ex)) (plus-done (1 + t * (a.steps + 1)) (walk (a.next + 1) d) e)
     where
-      body : Complete code count (suc d) (k + 1) b v → (u : ℕ) × (walk (b + 1) d ≡ Done m u) × (w ≡ 1 + t * (v + 1) + u)
+      body : Complete code count (suc d) (k + 1) a.next a.steps → (u : ℕ) × (walk (a.next + 1) d ≡ Done m u) × (w ≡ 1 + t * (a.steps + 1) + u)
           → Complete code count d k m w
       body (inner s x g) p =
-          let z : suc (t * suc v + p.0) ≡ w = omega (arith, p.2) in
-          subst (Complete code count d k m) z (complete-loop q x r s (ih (b + 1) d m p.0 g p.1))
+          let z : suc (t * suc a.steps + p.0) ≡ w = omega (arith, p.2) in
+          subst (Complete code count d k m) z (complete-loop q x r s (ih (a.next + 1) d m p.0 g p.1))
 
   by-act : (k d m w : ℕ) (walk : ℕ → ℕ → Walked) → Walks walk → (a : Act) → Told k d a → by_act a k d walk ≡ Done m w
       → Complete code count d k m w

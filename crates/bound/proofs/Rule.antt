@@ -5,8 +5,8 @@ use mathlib.Core.Path.{◌≡◌, refl, sym, ap, ◌∙◌}
 use native.Mathlib.Omega.{arith}
 use Rattle.ec20.specs.declared.Control.{Control}
 use Rattle.ec20.specs.declared.Control.TheVariants.{Jumps, Marks, Ends}
-use Rattle.ec20.specs.declared.Found.TheVariants.{At, Nowhere}
-use Rattle.ec20.specs.declared.Walked.TheVariants.{Done}
+use Rattle.ec20.specs.Found.{At, Nowhere}
+use Rattle.ec20.specs.Walked.{Done}
 use Rattle.ec20.specs.Basics.{first_at}
 use Rattle.ec20.specs.Control.{Controls, marks, found_in_body, first_label}
 use Rattle.ec20.specs.Walkers.{walk_of}

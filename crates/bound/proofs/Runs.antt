@@ -8,7 +8,7 @@ use native.Mathlib.Decide.{ℕ_discrete}
 use lib.ListN.{length}
 use borrow.Author.Tests.{eq-eqb, ne_eqb}
 use Rattle.ec20.specs.declared.Control.TheVariants.{Jumps}
-use Rattle.ec20.specs.declared.Judged.TheVariants.{Fine}
+use Rattle.ec20.specs.Judged.{Fine}
 use Rattle.ec20.specs.declared.Units.{Units}
 use Rattle.ec20.specs.Code.{Program}
 use Rattle.ec20.specs.Control.{control_of, controls_of}

@@ -9,9 +9,9 @@ use Rattle.ec20.specs.declared.Control.{Control}
 use Rattle.ec20.specs.declared.Control.TheVariants.{Plain, Opens, Closes, Jumps, Marks, Ends}
 use Rattle.ec20.specs.declared.Machine.{Machine}
 use Rattle.ec20.specs.declared.Report.{Report}
-use Rattle.ec20.specs.declared.Scanned.TheVariants.{Ended, Watchdog, Refused}
+use Rattle.ec20.specs.Scanned.{Ended, Watchdog, Refused}
 use Rattle.ec20.specs.declared.Units.{Units}
-use Rattle.ec20.specs.declared.Verdict.TheVariants.{Accepted}
+use Rattle.ec20.specs.Verdict.{Accepted}
 use Rattle.ec20.specs.Basics.{pick, some_below}
 use Rattle.ec20.specs.Devices.{Device, ec20}
 use Rattle.ec20.specs.Code.{program_of}

@@ -1,8 +1,8 @@
 -- What loops and jumps of an accepted program are: what is left of 6, 7 and 8 once none of them is given.
 use Rattle.std.specs.Prelude.{ℕ, ◌≤◌, ◌<◌, ◌≡◌}
 use Rattle.ec20.specs.declared.Control.TheVariants.{Jumps, Marks}
-use Rattle.ec20.specs.declared.Found.TheVariants.{At}
-use Rattle.ec20.specs.declared.Walked.TheVariants.{Done}
+use Rattle.ec20.specs.Found.{At}
+use Rattle.ec20.specs.Walked.{Done}
 use Rattle.ec20.specs.Control.{Controls, first_label}
 use Rattle.ec20.specs.Walkers.{walk_of}
 use Rattle.ec20.specs.Labels.{Stands}

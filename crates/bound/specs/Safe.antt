@@ -2,7 +2,7 @@
 use Rattle.std.specs.Prelude.{ℕ, zero, suc, ◌+◌, ◌-◌, ◌≤◌, ◌<◌, true, List, [], ◌∷◌, ◌≡◌, length, get_or}
 use Rattle.ec20.specs.declared.Control.{Control}
 use Rattle.ec20.specs.declared.Control.TheVariants.{Plain, Opens, Closes, Jumps, Marks, Ends}
-use Rattle.ec20.specs.declared.Found.TheVariants.{At}
+use Rattle.ec20.specs.Found.{At}
 use Rattle.ec20.specs.Devices.{deepest}
 use Rattle.ec20.specs.Code.{Program}
 use Rattle.ec20.specs.Control.{Controls, control_of, controls_of, marks, next_of_for}

@@ -10,11 +10,11 @@ use Rattle.ec20.specs.Check.{check_of}
 use Rattle.ec20.specs.Devices.{ec20}
 use Rattle.ec20.specs.File.{framed, frame_of, first_of, count_of, records_from, records_of}
 use Rattle.ec20.specs.Operands.{first_bad}
-use Rattle.ec20.specs.declared.Frame.{Frame}
-use Rattle.ec20.specs.declared.Frame.TheVariants.{Whole, Broken}
-use Rattle.ec20.specs.declared.Judged.TheVariants.{Fine}
-use Rattle.ec20.specs.declared.Verdict.{Verdict}
-use Rattle.ec20.specs.declared.Verdict.TheVariants.{Accepted}
+use Rattle.ec20.specs.Frame.{Frame}
+use Rattle.ec20.specs.Frame.{Whole, Broken}
+use Rattle.ec20.specs.Judged.{Fine}
+use Rattle.ec20.specs.Verdict.{Verdict}
+use Rattle.ec20.specs.Verdict.{Accepted}
 
 -- a broken frame is not a whole one
 pub apart : {A : Type 0} {a b : ℕ} → ◌≡◌ {A = Frame} Broken (Whole a b) → A

@@ -6,6 +6,7 @@ use mathlib.Core.Path.{◌≡◌, refl, sym, ap, ◌∙◌}
 use native.Mathlib.Omega.{arith}
 use lib.Dec.{leb}
 use borrow.Author.Tests.{le-leb, lt-leb, leb-true}
+use Rattle.std.specs.Prelude.{Err, Ok}
 use Rattle.checker.proofs.Accepted.{apart, whole-pick}
 use Rattle.ec20.specs.Basics.{pick, then}
 use Rattle.ec20.specs.Check.{judge_program, judge_file, verdict_of, check_for, check_of, w_of}
@@ -19,16 +20,16 @@ use Rattle.ec20.specs.Walkers.{walk_of, walked, unsound, steps_walked}
 use Rattle.ec20.proofs.Walkers.{walked-unsound, walked-steps}
 use Rattle.ec20.specs.Operands.{first_bad}
 use Rattle.ec20.specs.Rung.{first_broken}
-use Rattle.ec20.specs.declared.Frame.TheVariants.{Whole, Broken}
-use Rattle.ec20.specs.declared.Judged.{Judged}
-use Rattle.ec20.specs.declared.Judged.TheVariants.{Fine, Fault}
-use Rattle.ec20.specs.declared.Walked.{Walked}
-use Rattle.ec20.specs.declared.Walked.TheVariants.{Done, Bad}
-use Rattle.ec20.specs.declared.Verdict.{Verdict}
+use Rattle.ec20.specs.Frame.{Whole, Broken}
+use Rattle.ec20.specs.Judged.{Judged}
+use Rattle.ec20.specs.Judged.{Fine, Fault}
+use Rattle.ec20.specs.Walked.{Walked}
+use Rattle.ec20.specs.Walked.{Done, Bad}
+use Rattle.ec20.specs.Verdict.{Verdict}
 use Rattle.labels.specs.Sound.{Sound}
 use Rattle.loops.specs.Capped.{capped}
 use Rattle.loops.proofs.Told.{unsound-capped, too-long-capped, steps-capped}
-use Rattle.ec20.specs.declared.Verdict.TheVariants.{Accepted, Refused}
+use Rattle.ec20.specs.Verdict.{Accepted, Refused}
 use Rattle.checker.specs.Stages.{stage, steps_in, from_jumps, from_loops, from_rungs, from_records}
 
 -- a fault ends it
@@ -46,7 +47,7 @@ apart-walked e = let z : ◌≡◌ {A = ℕ} 0 1 = cc in absurd (omega arith)
 done-walk : (x : Walked) {m w : ℕ} → Done m w ≡ capped x → (u : ℕ) × (v : ℕ) × (x ≡ Done u v)
 unfolding capped
 done-walk (Bad k) e = apart-walked (sym e)
-done-walk (Done m w) e = (m, w, refl)
+done-walk (Ok a) e = (a.next, a.steps, refl)
 
 pub sound-walk : (code : Controls) (count : ℕ) {r : Walked} {m w : ℕ} → r ≡ capped (walk_of code count) → r ≡ Done m w → Sound code count
 unfolding Sound
@@ -78,7 +79,7 @@ module _ (rs : Records) where
       ends rs.count (steps_in rs) _ _ (z ∙ walked-unsound (controls_of (program_in rs)) rs.count some) refl
 
   later : (n w w' : ℕ) (l : Judged) → too_long w ≡ too_long w' → (w' ≤ 10000000 → w ≡ w') → stage n w (then l (too_long w)) ≡ stage n w' (then l (too_long w'))
-  later n w w' (Fault m k) same few = refl
+  later n w w' (Err r) same few = refl
   later n w w' Fine same few = rw same (go (leb w' 10000000) refl)
     where
       go : (t : Bool) → leb w' 10000000 ≡ t → stage n w (pick t Fine (Fault 8 0)) ≡ stage n w' (pick t Fine (Fault 8 0))
@@ -88,9 +89,9 @@ module _ (rs : Records) where
   from-walk : (x : Walked) {m w : ℕ} → Done m w ≡ capped x → stage rs.count w (from_jumps rs w) ≡ stage rs.count (steps_walked x) (then (unsound x) (from_jumps rs (steps_walked x)))
   unfolding capped from_jumps
   from-walk (Bad k) e = apart-walked (sym e)
-  from-walk (Done m w) {w = u} e =
-      let z : u ≡ steps_walked (capped (Done m w)) = ap steps_walked e in
-      later rs.count u w (first_unlabelled (controls_of (program_in rs)) rs.count) (ap too_long z ∙ too-long-capped (Done m w)) (λ h. z ∙ steps-capped (Done m w) h)
+  from-walk (Ok a) {w = u} e =
+      let z : u ≡ steps_walked (capped (Done a.next a.steps)) = ap steps_walked e in
+      later rs.count u a.steps (first_unlabelled (controls_of (program_in rs)) rs.count) (ap too_long z ∙ too-long-capped (Done a.next a.steps)) (λ h. z ∙ steps-capped (Done a.next a.steps) h)
 
   -- the walkers find 6 and W as the definitions say them
   by-walkers : 0 < rs.count → (x : Walked) → x ≡ walked (program_in rs) → stage rs.count (steps_walked x) (then (unsound x) (from_jumps rs (steps_walked x))) ≡ from_loops rs
@@ -103,7 +104,7 @@ module _ (rs : Records) where
       go : (j : Judged) → first_unsound code rs.count ≡ j
           → stage rs.count (steps_walked x) (then (unsound x) (from_jumps rs (steps_walked x))) ≡ stage rs.count (steps_in rs) (then (first_unsound code rs.count) (from_jumps rs (steps_in rs)))
       go Fine z = rw (e, walked-unsound code rs.count some, z, walked-steps code rs.count some z)
-      go (Fault m k) z = rw (e, walked-unsound code rs.count some, z)
+      go (Err r) z = rw (e, walked-unsound code rs.count some, z)
 
   pub loops-done : 0 < rs.count → {r : Walked} {m w : ℕ} {v : Verdict} → r ≡ capped (walked (program_in rs)) → r ≡ Done m w → v ≡ stage rs.count w (from_jumps rs w)
       → v ≡ from_loops rs
@@ -130,7 +131,7 @@ module _ (rs : Records) where
 -- the verdict of a program is its stage
 verdict-stage : (p : Program) (j : Judged) → verdict_of p j ≡ stage p.count (w_of p) j
 verdict-stage p Fine = refl
-verdict-stage p (Fault m k) = refl
+verdict-stage p (Err r) = refl
 
 module _ (f : List ℕ) where
   broken-pick : (t : Bool) (a b : ℕ) → pick t (Whole a b) Broken ≡ Broken → t ≡ false

@@ -1,5 +1,5 @@
 -- The check in stages, the last first: what each of the checker's functions answers. `stage` turns a judgement into the verdict.
-use Rattle.std.specs.Prelude.{ℕ}
+use Rattle.std.specs.Prelude.{ℕ, Err}
 use Rattle.ec20.specs.Basics.{then}
 use Rattle.ec20.specs.Check.{judge_program, w_of}
 use Rattle.ec20.specs.Code.{program_in}
@@ -9,15 +9,15 @@ use Rattle.ec20.specs.File.{Records}
 use Rattle.ec20.specs.Labels.{first_unlabelled}
 use Rattle.ec20.specs.Loops.{first_unsound, too_long}
 use Rattle.ec20.specs.Operands.{first_bad}
-use Rattle.ec20.specs.declared.Judged.{Judged}
-use Rattle.ec20.specs.declared.Judged.TheVariants.{Fine, Fault}
-use Rattle.ec20.specs.declared.Verdict.{Verdict}
-use Rattle.ec20.specs.declared.Verdict.TheVariants.{Accepted, Refused}
+use Rattle.ec20.specs.Judged.{Judged}
+use Rattle.ec20.specs.Judged.{Fine, Fault}
+use Rattle.ec20.specs.Verdict.{Verdict}
+use Rattle.ec20.specs.Verdict.{Accepted, Refused}
 
 -- no fault: accepted, with so many records and steps
 abbrev pub stage : ℕ → ℕ → Judged → Verdict
 stage n w Fine = Accepted n w
-stage n w (Fault m k) = Refused m k
+stage n w (Err r) = Err r
 
 -- W of the records' program
 abbrev pub steps_in : Records → ℕ

@@ -7,12 +7,13 @@ use native.Mathlib.Omega.{arith}
 use lib.ListN.{length, get_or}
 use lib.Dec.{ltb, leb, eqb}
 use borrow.Author.Tests.{eq-eqb, ne_eqb, le-leb, lt-leb, leb-true, leb-false}
+use Rattle.std.specs.Prelude.{Err}
 use Rattle.ec20.proofs.Tests.{both}
 use Rattle.ec20.specs.Basics.{pick, then}
 use Rattle.ec20.specs.Devices.{ec20}
 use Rattle.ec20.specs.Move.{block_fault}
-use Rattle.ec20.specs.declared.Judged.{Judged}
-use Rattle.ec20.specs.declared.Judged.TheVariants.{Fine, Fault}
+use Rattle.ec20.specs.Judged.{Judged}
+use Rattle.ec20.specs.Judged.{Fine, Fault}
 use Rattle.units.specs.Clash.{Declared, clash_of}
 use Rattle.units.specs.Report.{pair, clashes_with, clashes_from, clashes_of, block_of, blocks_fault, list_fault, room_fault, judge_clashes, reported, filled, report_if, report_of}
 use Rattle.units.specs.declared.Clashed.{Clashed}
@@ -75,7 +76,7 @@ rows_tell v rs n i (suc k) e each =
 -- the first judgement, and then another: fine where both are
 then-fine : (a b : Judged) → is_fine (then a b) ≡ is_fine a && is_fine b
 then-fine Fine b = refl
-then-fine (Fault n k) b = refl
+then-fine (Err r) b = refl
 
 -- the blocks of one declaration more, at the end
 blocks_more : (v : Declared) (i n : ℕ) → is_fine (blocks_fault v i (suc n)) ≡ is_fine (blocks_fault v i n) && right_block (v.at (i + n))

@@ -1,11 +1,11 @@
 -- Which places clash, as numbers: for each place one, in which a bit stands for each place after it, the next one lowest. So a list is looked at once, and
 -- the report is made from what was found.
-use Rattle.std.specs.Prelude.{ℕ, zero, suc, ◌+◌, ◌-◌, ◌*◌, ◌/◌, ◌%◌, Bool, true, false, ◌&&◌, List, [], ◌∷◌, ◌++◌, get_or, set, replicate, leb, eqb}
+use Rattle.std.specs.Prelude.{ℕ, zero, suc, ◌+◌, ◌-◌, ◌*◌, ◌/◌, ◌%◌, Bool, true, false, ◌&&◌, List, [], ◌∷◌, ◌++◌, get_or, set, replicate, leb, eqb, Err}
 use Rattle.ec20.specs.Basics.{pick, one_if, then}
 use Rattle.ec20.specs.Devices.{ec20}
 use Rattle.ec20.specs.Move.{block_fault}
-use Rattle.ec20.specs.declared.Judged.{Judged}
-use Rattle.ec20.specs.declared.Judged.TheVariants.{Fine, Fault}
+use Rattle.ec20.specs.Judged.{Judged}
+use Rattle.ec20.specs.Judged.{Fine, Fault}
 use Rattle.units.specs.Clash.{Declared, clash_of}
 use Rattle.units.specs.Report.{pair, block_of, room_fault, Reported, report_if}
 use Rattle.units.specs.declared.Declaration.{Declaration}
@@ -14,7 +14,7 @@ use Rattle.clashes.specs.declared.Rows.{Rows}
 -- whether a judgement finds no fault
 abbrev pub is_fine : Judged → Bool
 is_fine Fine = true
-is_fine (Fault n k) = false
+is_fine (Err r) = false
 
 -- the declaration's block is neither empty nor out of range
 unfoldable pub right_block : Declaration → Bool

@@ -7,12 +7,13 @@ use mathlib.Core.Path.{◌≡◌, refl, sym, ap, subst, ◌∙◌}
 use native.Mathlib.Omega.{arith}
 use lib.IntN.{ℤ}
 use lib.ListN.{length, take}
+use Rattle.std.specs.Prelude.{Err}
 use Rattle.demands.specs.Demand3.{with_exchange}
 use Rattle.ec20.proofs.Tests.{differ}
-use Rattle.ec20.specs.declared.Exchanged.{Exchanged}
-use Rattle.ec20.specs.declared.Exchanged.TheVariants.{Done, Refused}
-use Rattle.ec20.specs.declared.Judged.{Judged}
-use Rattle.ec20.specs.declared.Judged.TheVariants.{Fine, Fault}
+use Rattle.ec20.specs.Exchanged.{Exchanged}
+use Rattle.ec20.specs.Exchanged.{Done, Refused}
+use Rattle.ec20.specs.Judged.{Judged}
+use Rattle.ec20.specs.Judged.{Fine, Fault}
 use Rattle.ec20.specs.Devices.{ec20}
 use Rattle.ec20.specs.Exchange.{Exchange, exchanged, judge_exchange, exchange_if, exchange_for, exchange_of}
 use Rattle.ec20.specs.Memory.{with_d}
@@ -51,12 +52,12 @@ drawn-alike w s x y e f h =
 
 is-done : Exchanged → Bool
 is-done Done = true
-is-done (Refused m k) = false
+is-done (Err r) = false
 
 done-words : (j : Judged) (d : List ℤ) (b : Block) (q : ℕ) → Done ≡ (exchange_if j d b q).answer → (exchange_if j d b q).words ≡ exchanged b q d
 unfolding is-done
 done-words Fine d b q e = refl
-done-words (Fault m k) d b q e = differ (ap is-done e)
+done-words (Err r) d b q e = differ (ap is-done e)
 
 -- after an accepted move it is granted, of a table of 8,000 words
 granted : (w : Way) (f g : List ℕ) → MovedIn w f g → (d : List ℤ) → length d ≡ 8000
@@ -80,8 +81,8 @@ exchanged-in w f g x Done m h =
     let b = block w.start w.length in
     let p = plant_of x in
     h.1.0 ∙ ap (with-words p) (done-words (judge_exchange ec20 p.mem.d b w.place) p.mem.d b w.place h.0)
-exchanged-in w f g x (Refused n k) m h =
-    let size : length x ≡ 16892 = ap length (sym (h.1.1.1 n k refl)) ∙ ap length h.1.1.0 ∙ image-length _ in
+exchanged-in w f g x (Err r) m h =
+    let size : length x ≡ 16892 = ap length (sym (h.1.1.1 r.number r.at refl)) ∙ ap length h.1.1.0 ∙ image-length _ in
     let p = plant_of x in
     h.1.0 ∙ ap (λ (e : Exchange). with-words p e.words) (granted w f g m p.mem.d (plant-sizes x size).d)
 

@@ -6,13 +6,14 @@ use mathlib.Core.Logic.{inl}
 use mathlib.Core.Path.{◌≡◌, refl, sym, ap, ◌∙◌}
 use native.Mathlib.Decide.{dec_lt}
 use native.Mathlib.Omega.{arith}
+use Rattle.std.specs.Prelude.{Err}
 use Rattle.ec20.proofs.Computing.{computing}
 use Rattle.ec20.proofs.Files.{FOR, NEXT, NOP, END, file}
 use Rattle.ec20.specs.declared.Machine.{Machine}
 use Rattle.ec20.specs.declared.Report.{Report}
-use Rattle.ec20.specs.declared.Scanned.{Scanned}
-use Rattle.ec20.specs.declared.Scanned.TheVariants.{Ended, Watchdog, Refused}
-use Rattle.ec20.specs.declared.Verdict.TheVariants.{Accepted}
+use Rattle.ec20.specs.Scanned.{Scanned}
+use Rattle.ec20.specs.Scanned.{Ended, Watchdog, Refused}
+use Rattle.ec20.specs.Verdict.{Accepted}
 use Rattle.ec20.specs.Basics.{some_below}
 use Rattle.ec20.specs.Check.{check_for, check_of}
 use Rattle.ec20.specs.Code.{program_of}
@@ -68,7 +69,7 @@ module _ (v : Device) (f : List ℕ) (e d b : ℕ) (q : Plant) where
       go : (a : Scanned) → (scan_for v f e d q).answer ≡ a → scan_for v f e d q ≡ scan_for v f e b q
       go (Ended r) h = let k : r.steps ≤ w = (scans-of v f n w ok).at_most_w e d q r (inl h) in sym (ended_stays v f e d b q r h (omega arith))
       go (Watchdog r) h = absurd ((scans-of v f n w ok).no_watchdog e d q l r h)
-      go (Refused i k) h = sym (refused_stays v f e d b q i k h)
+      go (Err r) h = sym (refused_stays v f e d b q r.number r.at h)
 
   -- with b it ends after more than d steps: with d it is stopped
   needs_more : (r : Report) → (scan_for v f e b q).answer ≡ Ended r → d < r.steps → StoppedAfter (scan_for v f e d q).answer d
@@ -83,8 +84,8 @@ module _ (v : Device) (f : List ℕ) (e d b : ℕ) (q : Plant) where
           let o : r ≡ t = cc in
           let k : r.steps ≡ t.steps = ap (λ (x : Report). x.steps) o in
           absurd (omega arith)
-      go (Refused i k) g =
-          let s : (scan_for v f e b q).answer ≡ (scan_for v f e d q).answer = ap (λ (x : Scan). x.answer) (refused_stays v f e d b q i k g) in
+      go (Err r) g =
+          let s : (scan_for v f e b q).answer ≡ (scan_for v f e d q).answer = ap (λ (x : Scan). x.answer) (refused_stays v f e d b q r.number r.at g) in
           let z : ◌≡◌ {A = ℕ} 0 1 = cc in
           absurd (omega arith)
 

@@ -12,7 +12,7 @@ use Rattle.ec20.specs.Devices.{Device}
 use Rattle.ec20.specs.Memory.{Memory}
 use Rattle.ec20.specs.Plant.{Plant, plant, units_in}
 use Rattle.ec20.specs.Step.{World, step_of}
-use Rattle.ec20.specs.declared.Scanned.{Scanned}
+use Rattle.ec20.specs.Scanned.{Scanned}
 use Rattle.ec20.specs.declared.Units.{Units}
 use Rattle.ec20.specs.Scan.{Run, Scan, scan, run_of, start_world, answer_of, run_scan, timed_scan}
 use Rattle.demands.specs.Steps.{after_steps, scan_after, Answer, ended, watchdog, Counted}

@@ -4,11 +4,11 @@ use mathlib.Core.List.{List, [], ◌∷◌}
 use mathlib.Core.Path.{◌≡◌, refl, ap}
 use Rattle.ec20.proofs.Computing.{computing}
 use Rattle.ec20.proofs.Files.{D, r3, alone, blank, still}
-use Rattle.ec20.specs.declared.Exchanged.TheVariants.{Refused as NotExchanged}
-use Rattle.ec20.specs.declared.Moved.TheVariants.{To, Refused as NotMoved}
-use Rattle.ec20.specs.declared.Scanned.TheVariants.{Refused as NotScanned}
-use Rattle.ec20.specs.declared.Verdict.{Verdict}
-use Rattle.ec20.specs.declared.Verdict.TheVariants.{Accepted}
+use Rattle.ec20.specs.Exchanged.{Refused as NotExchanged}
+use Rattle.ec20.specs.Moved.{To, Refused as NotMoved}
+use Rattle.ec20.specs.Scanned.{Refused as NotScanned}
+use Rattle.ec20.specs.Verdict.{Verdict}
+use Rattle.ec20.specs.Verdict.{Accepted}
 use Rattle.ec20.specs.Check.{check_for}
 use Rattle.ec20.specs.Devices.{Device, ec20}
 use Rattle.ec20.specs.Exchange.{exchange_for}

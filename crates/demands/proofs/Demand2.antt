@@ -11,9 +11,9 @@ use Rattle.ec20.proofs.Computing.{computing}
 use Rattle.ec20.proofs.Files.{t9, blank, still}
 use Rattle.ec20.specs.declared.Machine.{Machine}
 use Rattle.ec20.specs.declared.Report.{Report}
-use Rattle.ec20.specs.declared.Scanned.TheVariants.{Ended, Watchdog}
+use Rattle.ec20.specs.Scanned.{Ended, Watchdog}
 use Rattle.ec20.specs.declared.Units.{Units}
-use Rattle.ec20.specs.declared.Verdict.TheVariants.{Accepted}
+use Rattle.ec20.specs.Verdict.{Accepted}
 use Rattle.ec20.specs.Basics.{pick}
 use Rattle.ec20.specs.Check.{check_for, check_of}
 use Rattle.ec20.specs.Code.{program_of}

@@ -14,7 +14,7 @@ use Rattle.ec20.proofs.Exchanges.{exchange-length, exchanged-back}
 use Rattle.ec20.proofs.Files.{K, SM, D, r0, r1, r2, r3, file, blank}
 use Rattle.ec20.proofs.MovedLaws.{moved_length, moved_at, comment-kept, trailer-kept}
 use Rattle.ec20.proofs.Tests.{both}
-use Rattle.ec20.specs.declared.Moved.TheVariants.{To}
+use Rattle.ec20.specs.Moved.{To}
 use Rattle.ec20.specs.Devices.{Device, ec20, within}
 use Rattle.ec20.specs.Exchange.{swapped, exchange_by}
 use Rattle.ec20.specs.File.{byte_at, first_of, count_of}

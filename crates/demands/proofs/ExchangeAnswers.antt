@@ -5,10 +5,11 @@ use mathlib.Core.Logic.{◌⊎◌, inl, inr}
 use mathlib.Core.Path.{◌≡◌, refl, sym, ap, ap₂, subst, ◌∙◌}
 use native.Mathlib.Omega.{arith}
 use lib.IntN.{ℤ}
-use Rattle.ec20.specs.declared.Exchanged.{Exchanged}
-use Rattle.ec20.specs.declared.Exchanged.TheVariants.{Done, Refused}
-use Rattle.ec20.specs.declared.Judged.{Judged}
-use Rattle.ec20.specs.declared.Judged.TheVariants.{Fine, Fault}
+use Rattle.std.specs.Prelude.{Err}
+use Rattle.ec20.specs.Exchanged.{Exchanged}
+use Rattle.ec20.specs.Exchanged.{Done, Refused}
+use Rattle.ec20.specs.Judged.{Judged}
+use Rattle.ec20.specs.Judged.{Fine, Fault}
 use Rattle.ec20.specs.Basics.{then}
 use Rattle.ec20.specs.Devices.{Device}
 use Rattle.ec20.specs.Exchange.{Exchange, exchanged, size_fault, place_fault, judge_exchange, exchange_if, exchange_for}
@@ -38,10 +39,10 @@ module _ (v : Device) (d : List ℤ) (b : Block) (q : ℕ) where
   by_order : (x y z s : Judged) → Tells 9 (Line9D v d) x → Tells 10 (Line10 v b) y → (Not10 v b → Tells 12 (Line12 v b) z)
       → (Not10 v b → Tells 14 (Line14D v b q) s)
       → Told (exchange_if (then x (then y (then z s))) d b q).answer
-  by_order (Fault m k) y z s f g h i = rw (f.0, f.1) (by-9 f.2)
-  by_order Fine (Fault m k) z s f g h i = rw (g.0, g.1) (by_10 f g.2)
-  by_order Fine Fine (Fault m k) s f g h i = let t = h g in rw (t.0, t.1) (by-12 f g t.2)
-  by_order Fine Fine Fine (Fault m k) f g h i = let t = i g in rw (t.0, t.1) (by-14 f g (h g) t.2)
+  by_order (Err r) y z s f g h i = rw (f.0, f.1) (by-9 f.2)
+  by_order Fine (Err r) z s f g h i = rw (g.0, g.1) (by_10 f g.2)
+  by_order Fine Fine (Err r) s f g h i = let t = h g in rw (t.0, t.1) (by-12 f g t.2)
+  by_order Fine Fine Fine (Err r) f g h i = let t = i g in rw (t.0, t.1) (by-14 f g (h g) t.2)
   by_order Fine Fine Fine Fine f g h i = done f g (h g) (i g)
 
   told : Told (exchange_for v d b q).answer
@@ -86,7 +87,7 @@ module _ (v : Device) (d : List ℤ) (b : Block) (q : ℕ) where
 
   abbrev Said : Exchanged → Type 0
   Said Done = Not9D × Not10 v b × Not12 v b × Not14D
-  Said (Refused m k) = Says m k
+  Said (Err r) = Says r.number r.at
 
   said : {r : Exchanged} → Told r → Said r
   said (by-9 h) =
@@ -129,7 +130,7 @@ module _ (v : Device) (d : List ℤ) (b : Block) (q : ℕ) where
   -- a refused call leaves the table
   kept_if : (x : Judged) (m k : ℕ) → (exchange_if x d b q).answer ≡ Refused m k → (exchange_if x d b q).words ≡ d
   kept_if Fine m k e = let z : ◌≡◌ {A = ℕ} 0 1 = cc in absurd (omega arith)
-  kept_if (Fault n j) m k e = refl
+  kept_if (Err r) m k e = refl
 
   kept : (m k : ℕ) → (exchange_for v d b q).answer ≡ Refused m k → (exchange_for v d b q).words ≡ d
   unfolding exchange_for
@@ -137,7 +138,7 @@ module _ (v : Device) (d : List ℤ) (b : Block) (q : ℕ) where
 
   done-if : (x : Judged) → (exchange_if x d b q).answer ≡ Done → (exchange_if x d b q).words ≡ exchanged b q d
   done-if Fine e = refl
-  done-if (Fault n j) e = let z : ◌≡◌ {A = ℕ} 0 1 = cc in absurd (omega arith)
+  done-if (Err r) e = let z : ◌≡◌ {A = ℕ} 0 1 = cc in absurd (omega arith)
 
   exchange-done : (exchange_for v d b q).answer ≡ Done → (exchange_for v d b q).words ≡ exchanged b q d
   unfolding exchange_for
@@ -166,7 +167,7 @@ module _ (v : Device) (d : List ℤ) (b : Block) (q : ℕ) where
 
     same-words : (r : Exchanged) → x.answer ≡ r → (exchange_for v d b q).answer ≡ r → x.words ≡ (exchange_for v d b q).words
     same-words Done y z = n.exchanges y ∙ sym (exchange-done z)
-    same-words (Refused m k) y z = n.unchanged m k y ∙ sym (kept m k z)
+    same-words (Err r) y z = n.unchanged r.number r.at y ∙ sym (kept r.number r.at z)
 
     pub exchange-only : x ≡ exchange_for v d b q
     exchange-only =

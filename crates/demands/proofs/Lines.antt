@@ -11,7 +11,7 @@ use lib.IntN.{ℤ}
 use lib.ListN.{length}
 use borrow.Author.Tests.{ltb-true, ltb-false, leb-true, leb-false, eqb-true, eqb-false, not-true, not-false}
 use Rattle.ec20.proofs.Tests.{both, each, one-fails}
-use Rattle.ec20.specs.declared.Judged.TheVariants.{Fine, Fault}
+use Rattle.ec20.specs.Judged.{Fine, Fault}
 use Rattle.ec20.specs.Basics.{pick}
 use Rattle.ec20.specs.Devices.{Device, meets, meets_work}
 use Rattle.ec20.specs.Exchange.{size_fault, place_fault}

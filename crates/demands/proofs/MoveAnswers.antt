@@ -4,14 +4,15 @@ use mathlib.Core.List.{List}
 use mathlib.Core.Logic.{◌⊎◌, inl, inr}
 use mathlib.Core.Path.{◌≡◌, refl, sym, ap, ap₂, subst, ◌∙◌}
 use native.Mathlib.Omega.{arith}
-use Rattle.ec20.specs.declared.Found.{Found}
-use Rattle.ec20.specs.declared.Found.TheVariants.{At, Nowhere}
-use Rattle.ec20.specs.declared.Judged.{Judged}
-use Rattle.ec20.specs.declared.Judged.TheVariants.{Fine, Fault}
-use Rattle.ec20.specs.declared.Moved.{Moved}
-use Rattle.ec20.specs.declared.Moved.TheVariants.{To, Refused}
-use Rattle.ec20.specs.declared.Verdict.{Verdict}
-use Rattle.ec20.specs.declared.Verdict.TheVariants.{Accepted, Refused as Unfit}
+use Rattle.std.specs.Prelude.{Err, Ok}
+use Rattle.ec20.specs.Found.{Found}
+use Rattle.ec20.specs.Found.{At, Nowhere}
+use Rattle.ec20.specs.Judged.{Judged}
+use Rattle.ec20.specs.Judged.{Fine, Fault}
+use Rattle.ec20.specs.Moved.{Moved}
+use Rattle.ec20.specs.Moved.{To, Refused}
+use Rattle.ec20.specs.Verdict.{Verdict}
+use Rattle.ec20.specs.Verdict.{Accepted, Refused as Unfit}
 use Rattle.ec20.specs.Basics.{then}
 use Rattle.ec20.specs.Check.{check_for}
 use Rattle.ec20.specs.Devices.{Device}
@@ -44,10 +45,10 @@ module _ (v : Device) (f : List ℕ) (b : Block) (l : Pool) where
       → (Not10 v b → Judges 13 (count_of f) (Line13 f b) s)
       → (Not10 v b → Not11 v l → Finds v f b l p)
       → Told (move_if (then x (then y (then z s))) p f b).answer
-  by_order ok (Fault m k) y z s p g h i j q = rw (g.0, g.1) (by_10 ok g.2)
-  by_order ok Fine (Fault m k) z s p g h i j q = rw (h.0, h.1) (by-11 ok g h.2)
-  by_order ok Fine Fine (Fault m k) s p g h i j q = let t = i g in rw (t.0, t.1) (by-12 ok g h t.2)
-  by_order ok Fine Fine Fine (Fault m k) p g h i j q = let t = j g in rw t.0 (by-13 ok g h (i g) t.1)
+  by_order ok (Err r) y z s p g h i j q = rw (g.0, g.1) (by_10 ok g.2)
+  by_order ok Fine (Err r) z s p g h i j q = rw (h.0, h.1) (by-11 ok g h.2)
+  by_order ok Fine Fine (Err r) s p g h i j q = let t = i g in rw (t.0, t.1) (by-12 ok g h t.2)
+  by_order ok Fine Fine Fine (Err r) p g h i j q = let t = j g in rw t.0 (by-13 ok g h (i g) t.1)
   by_order ok Fine Fine Fine Fine (At p) g h i j q =
       taken (record { accepts = ok; not_10 = g; not_11 = h; not_12 = i g; not_13 = j g }) (q g h)
   by_order ok Fine Fine Fine Fine Nowhere g h i j q =
@@ -55,12 +56,12 @@ module _ (v : Device) (f : List ℕ) (b : Block) (l : Pool) where
 
   by-verdict : (x : Verdict) → check_for v f ≡ x → Told (move_after v x f b l).answer
   unfolding judge_move
-  by-verdict (Accepted n w) c =
-      let ok : Accepts v f = (n, w, c) in
+  by-verdict (Ok a) c =
+      let ok : Accepts v f = (a.records, a.steps, c) in
       by_order ok (block_fault v b) (pool_fault v l) (block_work v b) (split_fault (records_of f) b) (place_of v (records_of f) b l)
       (judged-10 v b) (judged-11 v l) (judged-12 v b) (λ h. judged-13 v f b ok (some_word v b h))
       (λ h i. found-place v f b l ok (some_word v b h) (pool-order v l i) (pool_end v l i))
-  by-verdict (Unfit m k) c = by-check c
+  by-verdict (Err r) c = by-check c
 
   told : Told (move_for v f b l).answer
   unfolding move_for
@@ -128,7 +129,7 @@ module _ (v : Device) (f : List ℕ) (b : Block) (l : Pool) where
 
   abbrev Said : Moved → Type 0
   Said (To q) = Asked v f b l × Lowest v f b l q
-  Said (Refused m k) = Says m k
+  Said (Err r) = Says r.number r.at
 
   said : {r : Moved} → Told r → Said r
   said (by-check {m} {k} e) =
@@ -204,11 +205,11 @@ module _ (v : Device) (f : List ℕ) (b : Block) (l : Pool) where
 
   kept-judged : (x : Judged) (p : Found) (m k : ℕ) → (move_if x p f b).answer ≡ Refused m k → (move_if x p f b).file ≡ f
   kept-judged Fine p m k e = kept-found p m k e
-  kept-judged (Fault n j) p m k e = refl
+  kept-judged (Err r) p m k e = refl
 
   kept-verdict : (x : Verdict) (m k : ℕ) → (move_after v x f b l).answer ≡ Refused m k → (move_after v x f b l).file ≡ f
-  kept-verdict (Accepted n w) m k e = kept-judged (judge_move v (records_of f) b l) (place_of v (records_of f) b l) m k e
-  kept-verdict (Unfit n j) m k e = refl
+  kept-verdict (Ok a) m k e = kept-judged (judge_move v (records_of f) b l) (place_of v (records_of f) b l) m k e
+  kept-verdict (Err r) m k e = refl
 
   move-kept : (m k : ℕ) → (move_for v f b l).answer ≡ Refused m k → (move_for v f b l).file ≡ f
   unfolding move_for
@@ -246,7 +247,7 @@ module _ (v : Device) (f : List ℕ) (b : Block) (l : Pool) where
 
     same-file : (r : Moved) → m.answer ≡ r → (move_for v f b l).answer ≡ r → m.file ≡ (move_for v f b l).file
     same-file (To q) x y = n.moved q x ∙ sym (move-moved q y)
-    same-file (Refused i k) x y = n.unchanged i k x ∙ sym (move-kept i k y)
+    same-file (Err r) x y = n.unchanged r.number r.at x ∙ sym (move-kept r.number r.at y)
 
     pub move-only : m ≡ move_for v f b l
     move-only = let a = same_answer told in ap₂ move a (same-file (move_for v f b l).answer a refl)

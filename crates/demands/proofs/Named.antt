@@ -17,7 +17,7 @@ use Rattle.ec20.specs.declared.Operand.{Operand}
 use Rattle.ec20.specs.declared.Place.{Place}
 use Rattle.ec20.specs.declared.Rec.{Rec}
 use Rattle.ec20.specs.declared.Row.{Row}
-use Rattle.ec20.specs.declared.Verdict.TheVariants.{Accepted}
+use Rattle.ec20.specs.Verdict.{Accepted}
 use Rattle.ec20.specs.Basics.{pick}
 use Rattle.ec20.specs.Check.{check_for}
 use Rattle.ec20.specs.Code.{instr_by, instr_of, code_of, program_of}

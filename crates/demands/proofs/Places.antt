@@ -9,8 +9,8 @@ use Rattle.ec20.proofs.NoFault.{place-parts}
 use Rattle.ec20.proofs.Ranges.{inside-yes, is-inside}
 use Rattle.ec20.proofs.Some.{some_at, none-at}
 use Rattle.ec20.proofs.Tests.{is_false}
-use Rattle.ec20.specs.declared.Found.{Found}
-use Rattle.ec20.specs.declared.Found.TheVariants.{At, Nowhere}
+use Rattle.ec20.specs.Found.{Found}
+use Rattle.ec20.specs.Found.{At, Nowhere}
 use Rattle.ec20.specs.declared.Operand.{Operand}
 use Rattle.ec20.specs.declared.Place.{Place}
 use Rattle.ec20.specs.Devices.{Device, meets, meets_work}

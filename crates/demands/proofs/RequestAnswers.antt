@@ -9,9 +9,10 @@ use lib.Dec.{leb, eqb}
 use lib.IntN.{ℤ}
 use lib.ListN.{length}
 use borrow.Author.Tests.{leb-true, leb-false, eqb-true, eqb-false}
+use Rattle.std.specs.Prelude.{Err}
 use Rattle.ec20.proofs.Tests.{both, one-fails}
-use Rattle.ec20.specs.declared.Judged.{Judged}
-use Rattle.ec20.specs.declared.Judged.TheVariants.{Fine, Fault}
+use Rattle.ec20.specs.Judged.{Judged}
+use Rattle.ec20.specs.Judged.{Fine, Fault}
 use Rattle.ec20.specs.Basics.{then}
 use Rattle.ec20.specs.Devices.{ec20}
 use Rattle.modbus.specs.declared.Answered.{Answered}
@@ -75,9 +76,9 @@ module _ (own : ℕ) (f m : List ℕ) (d : List ℤ) (b : List ℕ) where
   Said (Reply l) = Unit {0}
 
   by_order : (x y : Judged) → Tells 9 (Line9R ec20 m d) x → Tells 16 (Line16 own b) y → Said (answer_if (then x y) own f m d b).answer
-  by_order (Fault n k) y p q =
+  by_order (Err r) y p q =
       record { nine = λ _. (p.1, p.2); sixteen = λ e. absurd (omega (arith, p.0)); no_other = inl p.0 }
-  by_order Fine (Fault n k) p q =
+  by_order Fine (Err r) p q =
       record { nine = λ e. absurd (omega (arith, q.0)); sixteen = λ _. (q.1, p, q.2); no_other = inr q.0 }
   by_order Fine Fine p q = not-refused Said own f m d b tt (λ _. tt)
 

@@ -5,10 +5,11 @@ use mathlib.Core.List.{List}
 use mathlib.Core.Logic.{inl, inr}
 use mathlib.Core.Path.{◌≡◌, refl, sym, ap, ap₂, subst, ◌∙◌}
 use native.Mathlib.Omega.{arith}
-use Rattle.ec20.specs.declared.Scanned.{Scanned}
-use Rattle.ec20.specs.declared.Scanned.TheVariants.{Ended, Watchdog, Refused}
-use Rattle.ec20.specs.declared.Verdict.{Verdict}
-use Rattle.ec20.specs.declared.Verdict.TheVariants.{Accepted, Refused as Unfit}
+use Rattle.std.specs.Prelude.{Err, Ok}
+use Rattle.ec20.specs.Scanned.{Scanned}
+use Rattle.ec20.specs.Scanned.{Ended, Watchdog, Refused}
+use Rattle.ec20.specs.Verdict.{Verdict}
+use Rattle.ec20.specs.Verdict.{Accepted, Refused as Unfit}
 use Rattle.ec20.specs.Basics.{pick}
 use Rattle.ec20.specs.Check.{check_for}
 use Rattle.ec20.specs.Code.{program_of}
@@ -40,8 +41,8 @@ module _ (v : Device) (f : List ℕ) (e b : ℕ) (q : Plant) where
   by-fit ok false h = by-9 ok (misfit v e q h)
 
   by-verdict : (x : Verdict) → check_for v f ≡ x → Told (scan_if v x (program_of f) e b q)
-  by-verdict (Accepted n w) h = by-fit (n, w, h) (fitting v e q) refl
-  by-verdict (Unfit m k) h = by-check h
+  by-verdict (Ok a) h = by-fit (a.records, a.steps, h) (fitting v e q) refl
+  by-verdict (Err r) h = by-check h
 
   told : Told (scan_for v f e b q)
   unfolding scan_for
@@ -58,7 +59,7 @@ module _ (v : Device) (f : List ℕ) (e b : ℕ) (q : Plant) where
   abbrev pub Said : Scan → Scanned → Type 0
   Said s (Ended r) = Accepts v f × Not9 v e q × Counted v (program_of f) e b q s × (r.steps ≤ b)
   Said s (Watchdog r) = Accepts v f × Not9 v e q × Counted v (program_of f) e b q s × (r.steps ≡ b)
-  Said s (Refused m k) = Says m k s
+  Said s (Err r) = Says r.number r.at s
 
   said-run : (s : Scan) (a : Scanned) → Accepts v f → Not9 v e q → (t : Counted v (program_of f) e b q s) → Answer b t.steps (scan_after v (program_of f) e q t.steps).st a → Said s a
   said-run s a ok n t (ended z) = (ok, n, t, t.in_budget)
@@ -80,7 +81,7 @@ module _ (v : Device) (f : List ℕ) (e b : ℕ) (q : Plant) where
       go : (a : Scanned) → (scan_for v f e b q).answer ≡ a → Ends b a
       go (Ended r) h = at_end r (says h).3
       go (Watchdog r) h = by_budget r (says h).3
-      go (Refused m k) h = refused m k
+      go (Err r) h = refused r.number r.at
 
   -- ---- and no other answer is told
 

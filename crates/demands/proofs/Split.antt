@@ -9,8 +9,8 @@ use Rattle.ec20.proofs.Laws.{no-fault}
 use Rattle.ec20.proofs.NoFault.{accepted-records, record-fine}
 use Rattle.ec20.proofs.Ranges.{is-inside}
 use Rattle.ec20.proofs.Tests.{both, is_false}
-use Rattle.ec20.specs.declared.Found.{Found}
-use Rattle.ec20.specs.declared.Found.TheVariants.{At, Nowhere}
+use Rattle.ec20.specs.Found.{Found}
+use Rattle.ec20.specs.Found.{At, Nowhere}
 use Rattle.ec20.specs.declared.Operand.{Operand}
 use Rattle.ec20.specs.declared.Place.{Place}
 use Rattle.ec20.specs.Basics.{first_at, refused_at}

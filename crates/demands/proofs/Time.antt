@@ -9,12 +9,13 @@ use lib.Dec.{ltb, leb, eqb}
 use lib.IntN.{ℤ, pos}
 use lib.ListN.{length, get_or, replicate}
 use borrow.Author.Tests.{le-leb, leb-true, eqb-true}
+use Rattle.std.specs.Prelude.{Err}
 use Rattle.ec20.proofs.Computing.{computing}
 use Rattle.ec20.proofs.Files.{K, SM, T, r0, r1, r2, file, blank}
 use Rattle.ec20.proofs.Tests.{each, picked}
 use Rattle.ec20.specs.declared.Report.{Report}
-use Rattle.ec20.specs.declared.Scanned.{Scanned}
-use Rattle.ec20.specs.declared.Scanned.TheVariants.{Ended, Watchdog, Refused}
+use Rattle.ec20.specs.Scanned.{Scanned}
+use Rattle.ec20.specs.Scanned.{Ended, Watchdog, Refused}
 use Rattle.ec20.specs.Devices.{Device, ec20}
 use Rattle.ec20.specs.Memory.{Memory, sized}
 use Rattle.ec20.specs.Plant.{Plant, plant, leftover_of, leftovers_fit, units_in, rest_after}
@@ -122,7 +123,7 @@ module _ (v : Device) (f : List ℕ) where
       go : (a : Scanned) → (scan_for v f e b q).answer ≡ a → (scan_for v f e b q).plant.rest ≡ rest_after e q.rest
       go (Ended r) z = (says v f e b q z).2.leftovers
       go (Watchdog r) z = (says v f e b q z).2.leftovers
-      go (Refused m k) z = absurd (h m k z)
+      go (Err r) z = absurd (h r.number r.at z)
 
   in_range : (e b : ℕ) (q : Plant) → NotRefused (scan_for v f e b q).answer → leftovers_fit (scan_for v f e b q).plant.rest ≡ true
   in_range e b q h = subst (λ (r : List ℕ). leftovers_fit r ≡ true) (sym (set_by_scan e b q h)) (fit-after e q.rest)
@@ -141,7 +142,7 @@ module _ (v : Device) (f : List ℕ) where
       go : (a : Scanned) → (scan_for v f 0 b q).answer ≡ a → (scan_for v f 0 b q).plant.rest ≡ q.rest
       go (Ended r) z = let s = says v f 0 b q z in s.2.leftovers ∙ no-time q.rest (fit 0 b q s.1)
       go (Watchdog r) z = let s = says v f 0 b q z in s.2.leftovers ∙ no-time q.rest (fit 0 b q s.1)
-      go (Refused m k) z = refused_keeps 0 b q m k z
+      go (Err r) z = refused_keeps 0 b q r.number r.at z
 
   carried : (q : Plant) (is : List Input) → NoneRefused (series v f q is) → (left_by q (series v f q is)).rest ≡ rest_over (times_of is) q.rest
   unfolding series rest_over

@@ -10,7 +10,7 @@ use Rattle.ec20.proofs.Files.{Y, M, SM, D, KM, L, r0, r1, r2, file, alone, blank
 use Rattle.ec20.specs.declared.Instr.TheVariants.{Word}
 use Rattle.ec20.specs.declared.Operand.{Operand}
 use Rattle.ec20.specs.declared.Units.{Units}
-use Rattle.ec20.specs.declared.Verdict.TheVariants.{Accepted}
+use Rattle.ec20.specs.Verdict.{Accepted}
 use Rattle.ec20.specs.Check.{check_for}
 use Rattle.ec20.specs.Code.{Program, no_operand, program_of}
 use Rattle.ec20.specs.Devices.{Device, ec20, kind_m, kind_d}

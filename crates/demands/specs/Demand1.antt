@@ -2,13 +2,13 @@
 -- document 01 (and those that document 02 adds), in their order, each exactly when its line holds; a refusal changes no lent byte or word. Nobody upstream checks for us, so a
 -- public entry has no `requires`."
 use Rattle.std.specs.Prelude.{ℕ, ◌/◌, ◌≤◌, List, ◌↔◌, ◌⊎◌, ◌≡◌, ℤ, replicate}
-use Rattle.ec20.specs.declared.Exchanged.TheVariants.{Done, Refused as NotExchanged}
-use Rattle.ec20.specs.declared.Moved.TheVariants.{To, Refused as NotMoved}
+use Rattle.ec20.specs.Exchanged.{Done, Refused as NotExchanged}
+use Rattle.ec20.specs.Moved.{To, Refused as NotMoved}
 use Rattle.ec20.specs.declared.Report.{Report}
-use Rattle.ec20.specs.declared.Scanned.{Scanned}
-use Rattle.ec20.specs.declared.Scanned.TheVariants.{Ended, Watchdog, Refused as NotScanned}
-use Rattle.ec20.specs.declared.Verdict.{Verdict}
-use Rattle.ec20.specs.declared.Verdict.TheVariants.{Accepted, Refused}
+use Rattle.ec20.specs.Scanned.{Scanned}
+use Rattle.ec20.specs.Scanned.{Ended, Watchdog, Refused as NotScanned}
+use Rattle.ec20.specs.Verdict.{Verdict}
+use Rattle.ec20.specs.Verdict.{Accepted, Refused}
 use Rattle.ec20.specs.Check.{check_for}
 use Rattle.ec20.specs.Code.{program_of}
 use Rattle.ec20.specs.Devices.{Device, ec20}

@@ -4,8 +4,8 @@
 -- numbers, and after a move these hold other words. And it "holds with leftovers as part of memory": they are not exchanged, and the scans of both
 -- programs leave the same.
 use Rattle.std.specs.Prelude.{ℕ, ◌+◌, ◌*◌, ◌≤◌, ◌<◌, List, map, ◌↔◌, ◌≡◌, ℤ, length}
-use Rattle.ec20.specs.declared.Exchanged.TheVariants.{Done}
-use Rattle.ec20.specs.declared.Moved.TheVariants.{To, Refused}
+use Rattle.ec20.specs.Exchanged.{Done}
+use Rattle.ec20.specs.Moved.{To, Refused}
 use Rattle.ec20.specs.Check.{check_for}
 use Rattle.ec20.specs.Code.{program_of}
 use Rattle.ec20.specs.Devices.{Device}

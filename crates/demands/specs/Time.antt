@@ -1,8 +1,8 @@
 -- NO MILLISECOND IS LOST. Document 02, (iv): "The memory gains two leftovers, 0 to 9 ms and 0 to 99 ms, carried from scan to scan". "Whole units from
 -- leftover plus elapsed go to every timer of that base in that scan. Leftovers are set before record 0, even with budget 0."
 use Rattle.std.specs.Prelude.{ℕ, ◌+◌, ◌*◌, true, List, [], ◌∷◌, map, ◌≡◌}
-use Rattle.ec20.specs.declared.Scanned.{Scanned}
-use Rattle.ec20.specs.declared.Scanned.TheVariants.{Refused}
+use Rattle.ec20.specs.Scanned.{Scanned}
+use Rattle.ec20.specs.Scanned.{Refused}
 use Rattle.ec20.specs.Devices.{Device}
 use Rattle.ec20.specs.Plant.{Plant, leftover_of, leftovers_fit, units_in, rest_after}
 use Rattle.ec20.specs.Scan.{Scan, scan_for}

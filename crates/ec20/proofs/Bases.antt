@@ -4,7 +4,7 @@ use mathlib.Core.List.{List, [], ◌∷◌}
 use mathlib.Core.Path.{◌≡◌, refl}
 use lib.ListN.{replicate, get_or}
 use lib.IntN.{ℤ, pos}
-use Rattle.ec20.specs.declared.Scanned.TheVariants.{Watchdog}
+use Rattle.ec20.specs.Scanned.{Watchdog}
 use Rattle.ec20.specs.Memory.{with_sm}
 use Rattle.ec20.specs.Plant.{Plant, plant}
 use Rattle.ec20.specs.Scan.{Scan, scan, scan_of, plain_scan}

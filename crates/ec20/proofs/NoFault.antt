@@ -7,6 +7,8 @@ use native.Mathlib.Omega.{arith}
 use lib.ListN.{length}
 use lib.Dec.{ltb, leb, eqb}
 use borrow.Author.Tests.{ltb-true, leb-true, not-true}
+use Rattle.std.specs.Prelude.{Err}
+use Rattle.ec20.proofs.Parts.{accepted-parts}
 use Rattle.ec20.proofs.Tests.{both, each}
 use Rattle.ec20.specs.Basics.{pick, then}
 use Rattle.ec20.specs.Check.{judge_program, judge_file, verdict_of, check_for, w_of}
@@ -18,10 +20,10 @@ use Rattle.ec20.specs.Move.{Block, block, Pool, touches, block_fault, pool_fault
 use Rattle.ec20.specs.Operands.{is_known, operands_ok, target_in_work, fault_of, fault_in, first_bad}
 use Rattle.ec20.specs.Table.{row_of}
 use Rattle.ec20.specs.UseMap.{some_record}
-use Rattle.ec20.specs.declared.Judged.{Judged}
-use Rattle.ec20.specs.declared.Judged.TheVariants.{Fine, Fault}
+use Rattle.ec20.specs.Judged.{Judged}
+use Rattle.ec20.specs.Judged.{Fine, Fault}
 use Rattle.ec20.specs.declared.Rec.{Rec}
-use Rattle.ec20.specs.declared.Verdict.TheVariants.{Accepted, Refused}
+use Rattle.ec20.specs.Verdict.{Accepted, Refused}
 
 -- no fault: the test holds
 pub passed : (t : Bool) (m k : ℕ) → pick t Fine (Fault m k) ≡ Fine → t ≡ true
@@ -31,7 +33,7 @@ passed false m k e = let z : ◌≡◌ {A = ℕ} 0 1 = cc in absurd (omega arith
 -- nothing is refused of two judgements: of neither
 pub then-fine : (a b : Judged) → then a b ≡ Fine → (a ≡ Fine) × (b ≡ Fine)
 then-fine Fine b e = (refl, e)
-then-fine (Fault n k) b e = let z : ◌≡◌ {A = ℕ} 0 1 = cc in absurd (omega arith)
+then-fine (Err r) b e = let z : ◌≡◌ {A = ℕ} 0 1 = cc in absurd (omega arith)
 
 -- ---- block, pool and place
 
@@ -91,8 +93,8 @@ record-fine v r e = go (is_known (row_of r.number) r) (operands_ok v (row_of r.n
 -- accepted: framed, no fault, and the records and steps that are told
 parts : (t : Bool) (p : Program) (j : Judged) (n w : ℕ) → pick t (verdict_of p j) (Refused 1 0) ≡ Accepted n w
     → (t ≡ true) × (j ≡ Fine) × (p.count ≡ n) × (w_of p ≡ w)
-parts true p Fine n w e = (refl, refl, cc, cc)
-parts true p (Fault m k) n w e = let z : ◌≡◌ {A = ℕ} 0 1 = cc in absurd (omega arith)
+parts true p Fine n w e = let z = accepted-parts p.count (w_of p) n w e in (refl, refl, z.0, z.1)
+parts true p (Err r) n w e = let z : ◌≡◌ {A = ℕ} 0 1 = cc in absurd (omega arith)
 parts false p j n w e = let z : ◌≡◌ {A = ℕ} 0 1 = cc in absurd (omega arith)
 
 -- a frame that is right has a record

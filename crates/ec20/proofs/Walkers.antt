@@ -7,6 +7,7 @@ use native.Mathlib.Omega.{arith}
 use native.Mathlib.Numerals.{add-one}
 use lib.Dec.{eqb, ltb, leb}
 use borrow.Author.Tests.{ltb-true, ltb-false, eqb-true, eqb-false, eq-eqb, ne_eqb, le-leb, lt-leb}
+use Rattle.std.specs.Prelude.{Err, Ok}
 use Rattle.ec20.proofs.NoFault.{then-fine}
 use Rattle.ec20.proofs.Tests.{picked}
 use Rattle.ec20.specs.Basics.{pick, then}
@@ -24,14 +25,14 @@ use Rattle.ec20.specs.declared.Act.{Act}
 use Rattle.ec20.specs.declared.Act.TheVariants.{Go, Enter, Leave, Finish, Refuse}
 use Rattle.ec20.specs.declared.Control.{Control}
 use Rattle.ec20.specs.declared.Control.TheVariants.{Plain, Opens, Closes, Jumps, Marks, Ends}
-use Rattle.ec20.specs.declared.Found.{Found}
-use Rattle.ec20.specs.declared.Found.TheVariants.{At, Nowhere}
-use Rattle.ec20.specs.declared.Judged.{Judged}
-use Rattle.ec20.specs.declared.Judged.TheVariants.{Fine, Fault}
+use Rattle.ec20.specs.Found.{Found}
+use Rattle.ec20.specs.Found.{At, Nowhere}
+use Rattle.ec20.specs.Judged.{Judged}
+use Rattle.ec20.specs.Judged.{Fine, Fault}
 use Rattle.ec20.specs.declared.Turn.{Turn}
 use Rattle.ec20.specs.declared.Turn.TheVariants.{Hit, Stop, On}
-use Rattle.ec20.specs.declared.Walked.{Walked}
-use Rattle.ec20.specs.declared.Walked.TheVariants.{Done, Bad}
+use Rattle.ec20.specs.Walked.{Walked}
+use Rattle.ec20.specs.Walked.{Done, Bad}
 
 -- ---- a search, by turns
 
@@ -166,18 +167,18 @@ module _ (code : Controls) (count : ℕ) where
   -- does, and what the records count; or, in a loop, that none does up to its NEXT, and what the records before that count.
   Says : ℕ → ℕ → Walked → Type 0
   Says k d (Bad b) = Rest d k ≡ Fault 6 b
-  Says k zero (Done m w) = (Rest 0 k ≡ Fine) × (bodies_at code count ≡ counting w (bodies_at code k))
-  Says k (suc d) (Done m w) =
-      (k ≤ m) × (m + 1 < count) × (code m ≡ Closes) × (Rest (suc d) k ≡ Rest d (m + 1)) × (bodies_at code m ≡ counting w (bodies_at code k))
+  Says k zero (Ok a) = (Rest 0 k ≡ Fine) × (bodies_at code count ≡ counting a.steps (bodies_at code k))
+  Says k (suc d) (Ok a) =
+      (k ≤ a.next) × (a.next + 1 < count) × (code a.next ≡ Closes) × (Rest (suc d) k ≡ Rest d (a.next + 1)) × (bodies_at code a.next ≡ counting a.steps (bodies_at code k))
 
   -- the same of a longer sequence, whose first records break nothing and count v
   longer : (a k d v : ℕ) (x : Walked) → a ≤ k → Rest d a ≡ Rest d k → bodies_at code k ≡ counting v (bodies_at code a) → Says k d x
       → Says a d (plus v x)
   unfolding Says plus
   longer a k d v (Bad b) h f g s = f ∙ s
-  longer a k zero v (Done m w) h f g s = (f ∙ s.0, s.1 ∙ (ap (counting w) g ∙ count-both v w (bodies_at code a)))
-  longer a k (suc d) v (Done m w) h f g s =
-      (omega (arith, s.0), s.1, s.2, f ∙ s.3, s.4 ∙ (ap (counting w) g ∙ count-both v w (bodies_at code a)))
+  longer a k zero v (Ok a2) h f g s = (f ∙ s.0, s.1 ∙ (ap (counting a2.steps) g ∙ count-both v a2.steps (bodies_at code a)))
+  longer a k (suc d) v (Ok a2) h f g s =
+      (omega (arith, s.0), s.1, s.2, f ∙ s.3, s.4 ∙ (ap (counting a2.steps) g ∙ count-both v a2.steps (bodies_at code a)))
 
   -- the walk of what comes later is known
   abbrev Walks : ℕ → (ℕ → ℕ → Walked) → Type 0
@@ -187,13 +188,13 @@ module _ (code : Controls) (count : ℕ) where
       → bodies_at code (k + 1) ≡ body n 0 ∷ bodies_at code k → (x : Walked) → Says (k + 1) (suc d) x → Says k d (follow n x (λ m. walk m d))
   unfolding Says follow bodies_after
   after-loop k d n walk ih f g (Bad b) s = f ∙ s
-  after-loop k d n walk ih f g (Done m w) s =
-      let h : k + 1 ≤ m = s.0 in
-      let e : bodies_at code m ≡ counting w (body n 0 ∷ bodies_at code k) = s.4 ∙ ap (counting w) g in
-      let c : bodies_after (code m) (bodies_at code m) ≡ closing (counting w (body n 0 ∷ bodies_at code k)) = rw (s.2, e) refl in
-      let b : bodies_at code (m + 1) ≡ counting (1 + n * (w + 1)) (bodies_at code k) = bodies-next m ∙ (c ∙ count-loop n w (bodies_at code k)) in
-      let r : Says (m + 1) d (walk (m + 1) d) = ih (m + 1) d (omega arith) s.1 in
-      longer k (m + 1) d (1 + n * (w + 1)) (walk (m + 1) d) (omega arith) (f ∙ s.3) b r
+  after-loop k d n walk ih f g (Ok a) s =
+      let h : k + 1 ≤ a.next = s.0 in
+      let e : bodies_at code a.next ≡ counting a.steps (body n 0 ∷ bodies_at code k) = s.4 ∙ ap (counting a.steps) g in
+      let c : bodies_after (code a.next) (bodies_at code a.next) ≡ closing (counting a.steps (body n 0 ∷ bodies_at code k)) = rw (s.2, e) refl in
+      let b : bodies_at code (a.next + 1) ≡ counting (1 + n * (a.steps + 1)) (bodies_at code k) = bodies-next a.next ∙ (c ∙ count-loop n a.steps (bodies_at code k)) in
+      let r : Says (a.next + 1) d (walk (a.next + 1) d) = ih (a.next + 1) d (omega arith) s.1 in
+      longer k (a.next + 1) d (1 + n * (a.steps + 1)) (walk (a.next + 1) d) (omega arith) (f ∙ s.3) b r
 
   by-act : (k d : ℕ) (walk : ℕ → ℕ → Walked) → k < count → Walks k walk → (a : Act) → Asked count k (code k) d (breaks code count d k) a
       → Says k d (by_act a k d walk)
@@ -234,7 +235,7 @@ module _ (code : Controls) (count : ℕ) where
   says-unsound : (x : Walked) → Says 0 0 x → unsound x ≡ first_unsound code count
   unfolding Says
   says-unsound (Bad b) s = sym s ∙ whole-rest
-  says-unsound (Done m w) s = sym s.0 ∙ whole-rest
+  says-unsound (Ok a) s = sym s.0 ∙ whole-rest
 
   says-steps : (x : Walked) → Says 0 0 x → first_unsound code count ≡ Fine → steps_walked x ≡ w_in code count
   unfolding Says w_in bodies_at counting
@@ -242,7 +243,7 @@ module _ (code : Controls) (count : ℕ) where
       let e : Fault 6 b ≡ Fine = sym s ∙ (whole-rest ∙ f) in
       let z : ◌≡◌ {A = ℕ} 0 1 = cc in
       absurd (omega arith)
-  says-steps (Done m w) s f = let e : 0 + w ≡ w = omega arith in rw s.1 (sym e)
+  says-steps (Ok a) s f = let e : 0 + a.steps ≡ a.steps = omega arith in rw s.1 (sym e)
 
   -- 6, as the walkers find it
   pub walked-unsound : 0 < count → unsound (walk_of code count) ≡ first_unsound code count
@@ -257,7 +258,7 @@ module _ (code : Controls) (count : ℕ) where
 -- W matters only where nothing is refused before it
 same-steps : (a b : Judged) (w v : ℕ) → (a ≡ Fine → w ≡ v) → then a (then b (too_long w)) ≡ then a (then b (too_long v))
 same-steps Fine b w v h = ap (λ (x : ℕ). then b (too_long x)) (h refl)
-same-steps (Fault n k) b w v h = refl
+same-steps (Err r) b w v h = refl
 
 module _ (p : Program) (some : 0 < p.count) where
   -- 5 to 8

@@ -1,4 +1,14 @@
 -- The EC20 machine, one module for each section of the scope. Read them in this order.
+-- The answers, as what is right or a refusal: of a judgement, a search, the frame, the check, a walk, a scan, the map, the move, the exchange
+pub mod Judged
+pub mod Found
+pub mod Frame
+pub mod Verdict
+pub mod Walked
+pub mod Scanned
+pub mod Mapped
+pub mod Moved
+pub mod Exchanged
 -- What every section uses
 pub mod Basics
 -- What the base holds: devices and WORK; numbers over the width; packed bits and groups; D words and pairs

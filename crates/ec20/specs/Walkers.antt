@@ -1,18 +1,18 @@
 -- How the code finds 6, 7 and W: a walk, which the code makes by two walkers that call each other, and a search that goes by turns. What they
 -- find is what specs/Loops.antt and specs/Control.antt say (proofs/Walkers.antt): nothing here is needed to read the check.
-use Rattle.std.specs.Prelude.{ℕ, zero, suc, ◌+◌, ◌-◌, ◌*◌, Bool, ltb, eqb}
+use Rattle.std.specs.Prelude.{ℕ, zero, suc, ◌+◌, ◌-◌, ◌*◌, Bool, ltb, eqb, Ok}
 use Rattle.ec20.specs.declared.Control.{Control}
 use Rattle.ec20.specs.declared.Control.TheVariants.{Plain, Opens, Closes, Jumps, Marks, Ends}
 use Rattle.ec20.specs.declared.Act.{Act}
 use Rattle.ec20.specs.declared.Act.TheVariants.{Go, Enter, Leave, Finish, Refuse}
-use Rattle.ec20.specs.declared.Walked.{Walked}
-use Rattle.ec20.specs.declared.Walked.TheVariants.{Done, Bad}
+use Rattle.ec20.specs.Walked.{Walked}
+use Rattle.ec20.specs.Walked.{Done, Bad}
 use Rattle.ec20.specs.declared.Turn.{Turn}
 use Rattle.ec20.specs.declared.Turn.TheVariants.{Hit, Stop, On}
-use Rattle.ec20.specs.declared.Found.{Found}
-use Rattle.ec20.specs.declared.Found.TheVariants.{At, Nowhere}
-use Rattle.ec20.specs.declared.Judged.{Judged}
-use Rattle.ec20.specs.declared.Judged.TheVariants.{Fine, Fault}
+use Rattle.ec20.specs.Found.{Found}
+use Rattle.ec20.specs.Found.{At, Nowhere}
+use Rattle.ec20.specs.Judged.{Judged}
+use Rattle.ec20.specs.Judged.{Fine, Fault}
 use Rattle.ec20.specs.Basics.{pick}
 use Rattle.ec20.specs.Devices.{deepest}
 use Rattle.ec20.specs.Code.{Program}
@@ -41,12 +41,12 @@ act_of code count k d = pick (eqb (k + 1) count) (last_act (code k) d) (mid_act 
 
 -- more steps ahead of what was walked
 unfoldable pub plus : ℕ → Walked → Walked
-plus s (Done m w) = Done m (s + w)
+plus s (Ok a) = Done a.next (s + a.steps)
 plus s (Bad k) = Bad k
 
 -- What comes after a loop of n passes whose body was walked up to its NEXT: "a loop counting 1 + n x (W of its body + 1)".
 unfoldable pub follow : ℕ → Walked → (ℕ → Walked) → Walked
-follow n (Done m w) after = plus (1 + n * (w + 1)) (after (m + 1))
+follow n (Ok a) after = plus (1 + n * (a.steps + 1)) (after (a.next + 1))
 follow n (Bad k) after = Bad k
 
 -- One record of a sequence, by what it asks; walk m j is the sequence from record m on, with j loops open.
@@ -69,12 +69,12 @@ walk_of code count = sequence_of code count count 0 0
 
 -- 6: the first record that breaks the structure
 abbrev pub unsound : Walked → Judged
-unsound (Done m w) = Fine
+unsound (Ok a) = Fine
 unsound (Bad k) = Fault 6 k
 
 -- the steps walked, which are W
 abbrev pub steps_walked : Walked → ℕ
-steps_walked (Done m w) = w
+steps_walked (Ok a) = a.steps
 steps_walked (Bad k) = 0
 
 -- what the walkers say of a program

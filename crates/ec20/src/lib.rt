@@ -25,11 +25,11 @@ pub struct Row {
 
 // ---- the file
 
-// The frame of a file: the byte at which the first record begins, and how many there are; or broken.
+// The frame of a file: the byte at which the first record begins, and how many there are.
 #[derive(Clone, Copy)]
-pub enum Frame {
-    Whole { first: usize, count: usize },
-    Broken,
+pub struct Frame {
+    pub first: usize,
+    pub count: usize,
 }
 
 // Kinds: 0 none, 1 constant, 2 X, 3 Y, 4 M, 5 SM, 6 T, 7 D, 8 label. value: the four bytes, as an unsigned number.
@@ -71,11 +71,11 @@ pub enum Instr {
 
 // ---- the check
 
-// No fault, or the number of a refusal and its record.
-#[derive(Clone, Copy)]
-pub enum Judged {
-    Fine,
-    Fault(usize, usize),
+// A refusal: its number in the table of refusals, and the record that is told with it, 0 where none is.
+#[derive(Clone, Copy, PartialEq, Eq)]
+pub struct Refusal {
+    pub number: usize,
+    pub at: usize,
 }
 
 // What the rung rule keeps from record to record: whether flow is present, whether the last instruction other than NOP was an
@@ -99,13 +99,6 @@ pub enum Control {
     Ends,
 }
 
-// What a search gives.
-#[derive(Clone, Copy)]
-pub enum Found {
-    At(usize),
-    Nowhere,
-}
-
 // How the code finds a label or a NEXT, 6 and W (specs/Walkers.antt). What a record does to a search: it is the one, it ends the body
 // searched, or the search goes on so deep in loops inside it.
 #[derive(Clone, Copy)]
@@ -126,18 +119,18 @@ pub enum Act {
     Refuse,
 }
 
-// The walker stopped before a record, after so many steps; or a record is refused.
+// The walker stopped before a record, after so many steps.
 #[derive(Clone, Copy)]
-pub enum Walked {
-    Done(usize, usize),
-    Bad(usize),
+pub struct Walk {
+    pub next: usize,
+    pub steps: usize,
 }
 
-// steps: W.
+// What the check tells of a program that it accepts. steps: W.
 #[derive(Clone, Copy)]
-pub enum Verdict {
-    Accepted { records: usize, steps: usize },
-    Refused { number: usize, record: usize },
+pub struct Accepted {
+    pub records: usize,
+    pub steps: usize,
 }
 
 // ---- the run
@@ -189,35 +182,21 @@ pub struct Report {
     pub at: usize,
 }
 
+// How a scan that was made came to its end.
 #[derive(Clone, Copy)]
-pub enum Scanned {
+pub enum Stop {
     Ended(Report),
     Watchdog(Report),
-    Refused { number: usize, record: usize },
 }
 
 // The budget of a scan whose call names none: default_budget of specs/Scan.antt.
 pub const DEFAULT_BUDGET: u32 = 200_000;
 
-// ---- map, mover, exchange
+// ---- map
 
-// number 0: not refused.
+// One bit for each D word, packed eight to a byte.
 #[derive(Clone, Copy)]
-pub struct Mapped {
-    pub number: usize,
-    pub at: usize,
+pub struct UseMap {
     pub read: [u8; 1000],
     pub written: [u8; 1000],
-}
-
-#[derive(Clone, Copy)]
-pub enum Moved {
-    To { place: usize },
-    Refused { number: usize, record: usize },
-}
-
-#[derive(Clone, Copy)]
-pub enum Exchanged {
-    Done,
-    Refused { number: usize, record: usize },
 }

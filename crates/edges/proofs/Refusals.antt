@@ -5,10 +5,10 @@ use mathlib.Core.List.{List, [], ◌∷◌, ◌++◌}
 use Prim.Native.Nat.{ℕ, ◌+◌, ◌^◌}
 use lib.ListN.{replicate, drop}
 use lib.IntN.{pos}
-use Rattle.ec20.specs.declared.Verdict.TheVariants.{Accepted, Refused}
-use Rattle.ec20.specs.declared.Scanned.TheVariants.{Ended, Refused as NotScanned}
-use Rattle.ec20.specs.declared.Moved.TheVariants.{To, Refused as NotMoved}
-use Rattle.ec20.specs.declared.Exchanged.TheVariants.{Done, Refused as NotExchanged}
+use Rattle.ec20.specs.Verdict.{Accepted, Refused}
+use Rattle.ec20.specs.Scanned.{Ended, Refused as NotScanned}
+use Rattle.ec20.specs.Moved.{To, Refused as NotMoved}
+use Rattle.ec20.specs.Exchanged.{Done, Refused as NotExchanged}
 use Rattle.ec20.specs.File.{framed}
 use Rattle.ec20.specs.Check.{check_of}
 use Rattle.ec20.specs.Plant.{Plant, plant}

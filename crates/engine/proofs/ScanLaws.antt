@@ -11,7 +11,7 @@ use Rattle.ec20.proofs.Laws.{no-fault}
 use Rattle.ec20.proofs.NoFault.{record-fine}
 use Rattle.ec20.proofs.Tests.{both, differ}
 use Rattle.ec20.specs.Table.{row_of}
-use Rattle.ec20.specs.declared.Judged.TheVariants.{Fine}
+use Rattle.ec20.specs.Judged.{Fine}
 use Rattle.ec20.specs.declared.Row.{Row}
 use Rattle.instructions.proofs.Rows.{row-past}
 use Rattle.records.specs.Ranges.{Held}
@@ -25,12 +25,12 @@ use Rattle.ec20.specs.Memory.{sized}
 use Rattle.ec20.specs.Operands.{is_known, fault_in, first_bad}
 use Rattle.ec20.specs.Plant.{Plant, leftovers_fit, units_in, rest_after}
 use Rattle.ec20.specs.Scan.{Ran, scan, leaving, run_scan, timed_scan, fitting, scan_for, scan_of}
-use Rattle.ec20.specs.declared.Frame.{Frame}
-use Rattle.ec20.specs.declared.Frame.TheVariants.{Whole}
-use Rattle.ec20.specs.declared.Scanned.TheVariants.{Refused}
+use Rattle.ec20.specs.Frame.{Frame}
+use Rattle.ec20.specs.Frame.{Whole}
+use Rattle.ec20.specs.Scanned.{Refused}
 use Rattle.ec20.specs.declared.Units.{Units}
-use Rattle.ec20.specs.declared.Verdict.{Verdict}
-use Rattle.ec20.specs.declared.Verdict.TheVariants.{Accepted, Refused as Unfit}
+use Rattle.ec20.specs.Verdict.{Verdict}
+use Rattle.ec20.specs.Verdict.{Accepted, Refused as Unfit}
 use Rattle.engine.specs.Made.{Fit, Made}
 use Rattle.engine.specs.declared.Ready.{Ready}
 

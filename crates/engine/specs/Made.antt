@@ -5,7 +5,7 @@ use Rattle.ec20.specs.Check.{check_of}
 use Rattle.ec20.specs.Code.{program_in, program_of}
 use Rattle.ec20.specs.Control.{controls_of}
 use Rattle.ec20.specs.File.{records_from}
-use Rattle.ec20.specs.declared.Verdict.TheVariants.{Accepted, Refused}
+use Rattle.ec20.specs.Verdict.{Accepted, Refused}
 use Rattle.engine.specs.declared.Ready.{Ready}
 use Rattle.jumps.specs.Prepared.{Prepared}
 use Rattle.records.specs.Ranges.{Held}

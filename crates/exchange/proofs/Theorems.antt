@@ -6,6 +6,7 @@ use native.Mathlib.Omega.{arith}
 use lib.IntN.{ℤ, pos}
 use lib.ListN.{length}
 use lib.Seq.{ext_get_or}
+use Rattle.std.specs.Prelude.{Err}
 use Rattle.blocks.proofs.Swapped.{swap-twice, swap-stays}
 use Rattle.blocks.specs.Apart.{Apart}
 use Rattle.ec20.proofs.Exchanges.{exchange-length, exchanged-back}
@@ -14,10 +15,10 @@ use Rattle.ec20.specs.Devices.{ec20}
 use Rattle.ec20.specs.Exchange.{Exchange, swapped, exchanged, size_fault, judge_exchange, exchange_if, exchange_for, exchange_of}
 use Rattle.ec20.specs.Move.{Block}
 use Rattle.ec20.specs.Registers.{word_at}
-use Rattle.ec20.specs.declared.Exchanged.{Exchanged}
-use Rattle.ec20.specs.declared.Exchanged.TheVariants.{Done, Refused}
-use Rattle.ec20.specs.declared.Judged.{Judged}
-use Rattle.ec20.specs.declared.Judged.TheVariants.{Fine, Fault}
+use Rattle.ec20.specs.Exchanged.{Exchanged}
+use Rattle.ec20.specs.Exchanged.{Done, Refused}
+use Rattle.ec20.specs.Judged.{Judged}
+use Rattle.ec20.specs.Judged.{Fine, Fault}
 use Rattle.exchange.proofs.Cases.{told, is-apart}
 
 -- two results that meet the contract are equal: answer and table
@@ -40,7 +41,7 @@ apart-answers e = let z : ◌≡◌ {A = ℕ} 0 1 = cc in absurd (omega arith)
 -- an exchange that is done, done again, is done, and the table is as it was before both
 again : (d : List ℤ) (b : Block) (q : ℕ) (j : Judged) → j ≡ judge_exchange ec20 d b q → (exchange_if j d b q).answer ≡ Done
     → exchange_if (judge_exchange ec20 (exchange_if j d b q).words b q) (exchange_if j d b q).words b q ≡ told Done d
-again d b q (Fault m k) e h = apart-answers h
+again d b q (Err r) e h = apart-answers h
 again d b q Fine e h =
     rw (judge-same (exchanged b q d) d b q (exchange-length (swapped b q) d), sym e) (let h = is-apart d b q e refl in ap (told Done) (exchanged-twice b q d h.0 h.1))
 

@@ -4,7 +4,7 @@ use mathlib.Core.List.{List}
 use mathlib.Core.Path.{◌≡◌, ap, ◌∙◌}
 use Rattle.ec20.specs.Plant.{Plant}
 use Rattle.ec20.specs.Scan.{Scan, scan}
-use Rattle.ec20.specs.declared.Scanned.{Scanned}
+use Rattle.ec20.specs.Scanned.{Scanned}
 use Rattle.host.specs.Seven.{seven_of}
 
 -- what is left, and the seven numbers of the answer

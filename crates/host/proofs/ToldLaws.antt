@@ -6,10 +6,10 @@ use lib.IntN.{ℤ}
 use Rattle.ec20.specs.Answers.{Told, told_by_check, told_by_move, told_by_exchange}
 use Rattle.ec20.specs.Exchange.{Exchange}
 use Rattle.ec20.specs.Move.{Move, move}
-use Rattle.ec20.specs.declared.Exchanged.{Exchanged}
-use Rattle.ec20.specs.declared.Mapped.{Mapped}
-use Rattle.ec20.specs.declared.Moved.{Moved}
-use Rattle.ec20.specs.declared.Verdict.{Verdict}
+use Rattle.ec20.specs.Exchanged.{Exchanged}
+use Rattle.ec20.specs.Mapped.{Mapped}
+use Rattle.ec20.specs.Moved.{Moved}
+use Rattle.ec20.specs.Verdict.{Verdict}
 use Rattle.jobs.specs.Job.{Job, job, ToldJob, told_by_job}
 use Rattle.jobs.specs.declared.Jobbed.{Jobbed}
 use Rattle.modbus.specs.Answer.{Answer, told_by_answer}

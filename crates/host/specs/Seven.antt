@@ -1,7 +1,7 @@
 -- The seven numbers that a host is told of a scan.
 use Rattle.std.specs.Prelude.{ℕ, List, [], ◌∷◌}
 use Rattle.ec20.specs.Answers.{ToldScan, told_by_scan}
-use Rattle.ec20.specs.declared.Scanned.{Scanned}
+use Rattle.ec20.specs.Scanned.{Scanned}
 
 abbrev pub listed : ToldScan → List ℕ
 listed t = t.number ∷ t.at ∷ t.kind ∷ t.steps ∷ t.stop ∷ t.error ∷ t.error_at ∷ []

@@ -14,11 +14,11 @@ use Rattle.ec20.specs.Check.{check_for, check_of}
 use Rattle.ec20.specs.Devices.{ec20}
 use Rattle.ec20.specs.File.{Records, framed, frame_of}
 use Rattle.ec20.specs.Operands.{first_bad}
-use Rattle.ec20.specs.declared.Frame.{Frame}
-use Rattle.ec20.specs.declared.Frame.TheVariants.{Whole}
-use Rattle.ec20.specs.declared.Judged.TheVariants.{Fine}
-use Rattle.ec20.specs.declared.Verdict.{Verdict}
-use Rattle.ec20.specs.declared.Verdict.TheVariants.{Accepted, Refused as Unfit}
+use Rattle.ec20.specs.Frame.{Frame}
+use Rattle.ec20.specs.Frame.{Whole}
+use Rattle.ec20.specs.Judged.{Fine}
+use Rattle.ec20.specs.Verdict.{Verdict}
+use Rattle.ec20.specs.Verdict.{Accepted, Refused as Unfit}
 use Rattle.job_moves.specs.Ready.{Fit, Ready, Movable, judged_by}
 use Rattle.jobs.proofs.Laws.{tasks-length}
 use Rattle.jobs.specs.Job.{refused, right_table, answer_after, job_answer, Job, job, job_if, job_for, job_of}

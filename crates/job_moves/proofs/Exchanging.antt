@@ -15,7 +15,7 @@ use Rattle.ec20.proofs.Exchanges.{exchange-length}
 use Rattle.ec20.proofs.Tests.{either}
 use Rattle.ec20.specs.Devices.{ec20}
 use Rattle.ec20.specs.Exchange.{Exchange, swapped, exchange_by, exchanged, size_fault, judge_exchange, exchange_for, exchange_of}
-use Rattle.ec20.specs.declared.Exchanged.{Exchanged}
+use Rattle.ec20.specs.Exchanged.{Exchanged}
 use Rattle.job_moves.specs.Ready.{Granted}
 use Rattle.jobs.specs.Job.{right_table}
 use Rattle.jobs.specs.Tasks.{Task, exchanged_by, task_of, tasks_of}

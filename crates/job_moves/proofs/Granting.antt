@@ -7,8 +7,8 @@ use lib.ListN.{length}
 use Rattle.ec20.specs.Devices.{ec20}
 use Rattle.ec20.specs.Exchange.{exchange_of}
 use Rattle.ec20.specs.Move.{move}
-use Rattle.ec20.specs.declared.Moved.{Moved}
-use Rattle.ec20.specs.declared.Moved.TheVariants.{To}
+use Rattle.ec20.specs.Moved.{Moved}
+use Rattle.ec20.specs.Moved.{To}
 use Rattle.job_moves.specs.Ready.{Granted, EachGranted}
 use Rattle.jobs.proofs.Laws.{tasks-length, task-at, each-named}
 use Rattle.jobs.specs.Job.{by_tasks, task_at}

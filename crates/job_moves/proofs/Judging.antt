@@ -8,13 +8,13 @@ use lib.Seq.{drop-cons}
 use Rattle.ec20.specs.Devices.{ec20}
 use Rattle.ec20.specs.File.{Records, records_from}
 use Rattle.ec20.specs.Move.{Block, Pool, judge_move, place_of, move_to, move_if, move_after, move_for}
-use Rattle.ec20.specs.declared.Found.{Found}
-use Rattle.ec20.specs.declared.Found.TheVariants.{At, Nowhere}
-use Rattle.ec20.specs.declared.Judged.{Judged}
-use Rattle.ec20.specs.declared.Judged.TheVariants.{Fine, Fault}
-use Rattle.ec20.specs.declared.Moved.{Moved}
-use Rattle.ec20.specs.declared.Moved.TheVariants.{To, Refused as NotMoved}
-use Rattle.ec20.specs.declared.Verdict.{Verdict}
+use Rattle.ec20.specs.Found.{Found}
+use Rattle.ec20.specs.Found.{At, Nowhere}
+use Rattle.ec20.specs.Judged.{Judged}
+use Rattle.ec20.specs.Judged.{Fine, Fault}
+use Rattle.ec20.specs.Moved.{Moved}
+use Rattle.ec20.specs.Moved.{To, Refused as NotMoved}
+use Rattle.ec20.specs.Verdict.{Verdict}
 use Rattle.job_moves.specs.Ready.{Ready}
 use Rattle.jobs.specs.Job.{task_then, by_tasks}
 use Rattle.jobs.specs.Tasks.{move_by, task_of, tasks_of}

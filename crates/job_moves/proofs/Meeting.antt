@@ -7,8 +7,8 @@ use native.Mathlib.Numerals.{add-one}
 use native.Mathlib.Omega.{arith}
 use lib.ListN.{length, get_or}
 use Rattle.ec20.specs.Basics.{first_at}
-use Rattle.ec20.specs.declared.Found.{Found}
-use Rattle.ec20.specs.declared.Found.TheVariants.{At, Nowhere}
+use Rattle.ec20.specs.Found.{Found}
+use Rattle.ec20.specs.Found.{At, Nowhere}
 use Rattle.job_moves.specs.Ready.{meetings_in}
 use Rattle.jobs.proofs.Laws.{tasks-length, task-at}
 use Rattle.jobs.specs.Job.{task_at, met_by, meet_then, meetings}

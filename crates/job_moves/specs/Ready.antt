@@ -4,8 +4,8 @@ use Rattle.ec20.specs.Check.{check_for}
 use Rattle.ec20.specs.Devices.{ec20}
 use Rattle.ec20.specs.Exchange.{exchanged, exchange_of}
 use Rattle.ec20.specs.File.{first_of, count_of}
-use Rattle.ec20.specs.declared.Exchanged.TheVariants.{Done as Exchanges}
-use Rattle.ec20.specs.declared.Verdict.TheVariants.{Accepted}
+use Rattle.ec20.specs.Exchanged.{Done as Exchanges}
+use Rattle.ec20.specs.Verdict.{Accepted}
 use Rattle.jobs.specs.Job.{by_tasks, meetings}
 use Rattle.jobs.specs.Tasks.{Task, task_of, tasks_of}
 use Rattle.jobs.specs.declared.Jobbed.{Jobbed}

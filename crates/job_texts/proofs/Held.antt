@@ -4,7 +4,7 @@ use mathlib.Core.Bool.{true, false}
 use mathlib.Core.List.{List, [], ◌∷◌}
 use mathlib.Core.Path.{◌≡◌, sym, ap, ◌∙◌}
 use lib.ListN.{length, set}
-use Rattle.ec20.specs.declared.Judged.{Judged}
+use Rattle.ec20.specs.Judged.{Judged}
 use Rattle.jobs.specs.Text.{job_line_at, three_of, job_in}
 use Rattle.jobs.specs.declared.JobLine.{JobLine}
 use Rattle.jobs.specs.declared.JobLine.TheVariants as J

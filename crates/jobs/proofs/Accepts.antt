@@ -9,14 +9,15 @@ use lib.Dec.{leb}
 use lib.IntN.{ℤ}
 use lib.ListN.{length}
 use borrow.Author.Tests.{leb-true, le-leb}
+use Rattle.std.specs.Prelude.{Err, Ok}
 use Rattle.ec20.specs.Basics.{pick}
 use Rattle.ec20.specs.Check.{check_for}
 use Rattle.ec20.specs.Devices.{Device}
-use Rattle.ec20.specs.declared.Found.{Found}
-use Rattle.ec20.specs.declared.Found.TheVariants.{At, Nowhere}
-use Rattle.ec20.specs.declared.Moved.TheVariants.{To}
-use Rattle.ec20.specs.declared.Verdict.{Verdict}
-use Rattle.ec20.specs.declared.Verdict.TheVariants.{Accepted, Refused as Unfit}
+use Rattle.ec20.specs.Found.{Found}
+use Rattle.ec20.specs.Found.{At, Nowhere}
+use Rattle.ec20.specs.Moved.{To}
+use Rattle.ec20.specs.Verdict.{Verdict}
+use Rattle.ec20.specs.Verdict.{Accepted, Refused as Unfit}
 use Rattle.jobs.specs.Job.{refused, by_tasks, task_at, met_by, meet_then, meetings, right_table, answer_after, job_answer}
 use Rattle.jobs.specs.Tasks.{Task, move_by, tasks_meet}
 use Rattle.jobs.specs.declared.Jobbed.{Jobbed}
@@ -46,8 +47,8 @@ module _ (v : Device) (f : List ℕ) (d : List ℤ) (ts : List Task) where
 
   by-verdict : (x : Verdict) (n : ℕ) → answer_after v x f d ts ≡ Done n
       → ((r : ℕ) × (w : ℕ) × (x ≡ Accepted r w)) × (pick (right_table v d) judged (refused 9 0) ≡ Done n)
-  by-verdict (Accepted r w) n e = ((r, w, refl), e)
-  by-verdict (Unfit m k) n e = let z : ◌≡◌ {A = ℕ} 0 1 = cc in absurd (omega arith)
+  by-verdict (Ok a) n e = ((a.records, a.steps, refl), e)
+  by-verdict (Err r) n e = let z : ◌≡◌ {A = ℕ} 0 1 = cc in absurd (omega arith)
 
   -- as many moves are told as there are tasks
   told : (i m n : ℕ) → meetings ts i m ≡ Done n → n ≡ length ts

@@ -7,7 +7,7 @@ use lib.ListN.{replicate}
 use Rattle.ec20.proofs.Files.{D, r2, alone}
 use Rattle.ec20.specs.Devices.{ec20}
 use Rattle.ec20.specs.Move.{block}
-use Rattle.ec20.specs.declared.Judged.TheVariants.{Fine, Fault}
+use Rattle.ec20.specs.Judged.{Fine, Fault}
 use Rattle.jobs.specs.Job.{refused, job_answer, job, job_of}
 use Rattle.jobs.specs.Tasks.{Task, task}
 use Rattle.jobs.specs.Text.{job_in}

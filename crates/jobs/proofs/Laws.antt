@@ -6,6 +6,7 @@ use mathlib.Core.Path.{◌≡◌, refl, ap, subst, ◌∙◌}
 use native.Mathlib.Decide.{ℕ_discrete}
 use native.Mathlib.Omega.{arith}
 use lib.ListN.{length, get_or, length-map, get_or-map}
+use Rattle.std.specs.Prelude.{Err, Ok}
 use Rattle.bound.proofs.First.{no-first, first-at}
 use Rattle.ec20.proofs.NoFault.{place-parts}
 use Rattle.ec20.proofs.Ranges.{is-inside}
@@ -14,14 +15,14 @@ use Rattle.ec20.specs.Check.{check_for}
 use Rattle.ec20.specs.Devices.{Device}
 use Rattle.ec20.specs.File.{Records, records_of}
 use Rattle.ec20.specs.Move.{Move, move, is_place, place_of, judge_move, move_to, move_if, move_after, move_for}
-use Rattle.ec20.specs.declared.Found.{Found}
-use Rattle.ec20.specs.declared.Found.TheVariants.{At, Nowhere}
-use Rattle.ec20.specs.declared.Judged.{Judged}
-use Rattle.ec20.specs.declared.Judged.TheVariants.{Fine, Fault}
-use Rattle.ec20.specs.declared.Moved.{Moved}
-use Rattle.ec20.specs.declared.Moved.TheVariants.{To, Refused as NotMoved}
-use Rattle.ec20.specs.declared.Verdict.{Verdict}
-use Rattle.ec20.specs.declared.Verdict.TheVariants.{Accepted, Refused as Unfit}
+use Rattle.ec20.specs.Found.{Found}
+use Rattle.ec20.specs.Found.{At, Nowhere}
+use Rattle.ec20.specs.Judged.{Judged}
+use Rattle.ec20.specs.Judged.{Fine, Fault}
+use Rattle.ec20.specs.Moved.{Moved}
+use Rattle.ec20.specs.Moved.{To, Refused as NotMoved}
+use Rattle.ec20.specs.Verdict.{Verdict}
+use Rattle.ec20.specs.Verdict.{Accepted, Refused as Unfit}
 use Rattle.jobs.specs.Job.{task_then, by_tasks, task_at, met_by, meet_then, meetings}
 use Rattle.jobs.specs.Tasks.{Task, pool_of, move_by, task_of, tasks_of, tasks_meet}
 use Rattle.jobs.specs.declared.Jobbed.{Jobbed}
@@ -65,11 +66,11 @@ module _ (v : Device) (f : List ℕ) (t : Task) (q : ℕ) where
 
   by-judged : (x : Judged) → (move_if x found f t.block).answer ≡ To q → found ≡ At q
   by-judged Fine e = by-found found e
-  by-judged (Fault m k) e = no_place e
+  by-judged (Err r) e = no_place e
 
   by-verdict : (x : Verdict) → (move_after v x f t.block (pool_of t)).answer ≡ To q → found ≡ At q
-  by-verdict (Accepted n w) e = by-judged (judge_move v (records_of f) t.block (pool_of t)) e
-  by-verdict (Unfit m k) e = no_place e
+  by-verdict (Ok a) e = by-judged (judge_move v (records_of f) t.block (pool_of t)) e
+  by-verdict (Err r) e = no_place e
 
   -- a move that is accepted goes to the place that is named
   pub named : (move_by v f t).answer ≡ To q → q ≡ t.place
@@ -84,7 +85,7 @@ module _ (v : Device) (f : List ℕ) (t : Task) (q : ℕ) where
 -- a task that lets a job be done is accepted, and so is the rest
 goes_on : (i : ℕ) (x : Moved) (rest : Jobbed) (n : ℕ) → task_then i x rest ≡ Done n → ((q : ℕ) × (x ≡ To q)) × (rest ≡ Done n)
 goes_on i (To q) rest n e = ((q, refl), e)
-goes_on i (NotMoved m k) rest n e = let z : ◌≡◌ {A = ℕ} 0 1 = cc in absurd (omega arith)
+goes_on i (Err r) rest n e = let z : ◌≡◌ {A = ℕ} 0 1 = cc in absurd (omega arith)
 
 module _ (v : Device) (f : List ℕ) where
   -- a job that is done: each of its moves is accepted

@@ -2,7 +2,7 @@
 use Prim.Native.Nat.{ℕ}
 use mathlib.Core.List.{List, [], ◌∷◌}
 use mathlib.Core.Path.{◌≡◌, refl}
-use Rattle.ec20.specs.declared.Judged.TheVariants.{Fine, Fault}
+use Rattle.ec20.specs.Judged.{Fine, Fault}
 use Rattle.units.proofs.Computing.{declarations}
 use Rattle.units.specs.Reading.{Read, read}
 use Rattle.jobs.specs.Text.{job_line_at, job_in}

@@ -1,16 +1,16 @@
 -- What comes of a job over a program file and a D table: a list of tasks (ours). In this order: 16, over 64 tasks; 1 to 8 of the file; 9 of the table;
 -- task by task what the move by it, on the file as it is lent, refuses; 14 where two tasks meet. "A refused call leaves all lent memory unchanged".
-use Rattle.std.specs.Prelude.{ℕ, zero, suc, ◌+◌, Bool, ◌||◌, List, [], ◌∷◌, leb, eqb, ℤ, length, get_or}
+use Rattle.std.specs.Prelude.{ℕ, zero, suc, ◌+◌, Bool, ◌||◌, List, [], ◌∷◌, leb, eqb, ℤ, length, get_or, Err, Ok}
 use Rattle.ec20.specs.Basics.{pick, first_at}
 use Rattle.ec20.specs.Check.{check_for}
 use Rattle.ec20.specs.Devices.{Device, ec20}
 use Rattle.ec20.specs.Move.{block}
-use Rattle.ec20.specs.declared.Found.{Found}
-use Rattle.ec20.specs.declared.Found.TheVariants.{At, Nowhere}
-use Rattle.ec20.specs.declared.Moved.{Moved}
-use Rattle.ec20.specs.declared.Moved.TheVariants.{To, Refused as NotMoved}
-use Rattle.ec20.specs.declared.Verdict.{Verdict}
-use Rattle.ec20.specs.declared.Verdict.TheVariants.{Accepted, Refused as Unfit}
+use Rattle.ec20.specs.Found.{Found}
+use Rattle.ec20.specs.Found.{At, Nowhere}
+use Rattle.ec20.specs.Moved.{Moved}
+use Rattle.ec20.specs.Moved.{To, Refused as NotMoved}
+use Rattle.ec20.specs.Verdict.{Verdict}
+use Rattle.ec20.specs.Verdict.{Accepted, Refused as Unfit}
 use Rattle.jobs.specs.Tasks.{Task, task, move_by, tasks_meet, moved_by, exchanged_by}
 use Rattle.jobs.specs.declared.Jobbed.{Jobbed}
 use Rattle.jobs.specs.declared.Jobbed.TheVariants.{Refused, Done}
@@ -22,7 +22,7 @@ refused m k = Refused m k 0 0
 -- task i is refused as its move is; else comes what the rest says
 abbrev pub task_then : ℕ → Moved → Jobbed → Jobbed
 task_then i (To q) rest = rest
-task_then i (NotMoved m k) rest = Refused m k i i
+task_then i (Err r) rest = Err r i i
 
 -- "line by line the refusal that `move` on the original gives": of the tasks, the first of which is number i; else what comes then
 unfoldable pub by_tasks : Device → List ℕ → ℕ → List Task → Jobbed → Jobbed
@@ -60,8 +60,8 @@ right_table v d = eqb (length d) v.words || eqb (length d) 0
 
 -- what is told of a job, by the check's verdict
 abbrev pub answer_after : Device → Verdict → List ℕ → List ℤ → List Task → Jobbed
-answer_after v (Unfit m k) f d ts = refused m k
-answer_after v (Accepted n w) f d ts = pick (right_table v d) (by_tasks v f 0 ts (meetings ts 0 (length ts))) (refused 9 0)
+answer_after v (Err r) f d ts = refused r.number r.at
+answer_after v (Ok a) f d ts = pick (right_table v d) (by_tasks v f 0 ts (meetings ts 0 (length ts))) (refused 9 0)
 
 unfoldable pub job_answer : Device → List ℕ → List ℤ → List Task → Jobbed
 job_answer v f d ts = pick (leb (length ts) 64) (answer_after v (check_for v f) f d ts) (refused 16 0)

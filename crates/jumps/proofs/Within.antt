@@ -12,8 +12,8 @@ use Rattle.ec20.specs.File.{Records}
 use Rattle.ec20.specs.Walkers.{turn_of, by_turn}
 use Rattle.ec20.specs.declared.Control.{Control}
 use Rattle.ec20.specs.declared.Control.TheVariants.{Plain, Opens, Closes, Jumps, Marks, Ends}
-use Rattle.ec20.specs.declared.Found.{Found}
-use Rattle.ec20.specs.declared.Found.TheVariants.{At}
+use Rattle.ec20.specs.Found.{Found}
+use Rattle.ec20.specs.Found.{At}
 use Rattle.ec20.specs.declared.Instr.TheVariants.{End}
 use Rattle.ec20.specs.declared.Turn.{Turn}
 use Rattle.ec20.specs.declared.Turn.TheVariants.{Hit, Stop, On}

@@ -16,8 +16,8 @@ use Rattle.ec20.specs.Control.{Controls, marks, first_label}
 use Rattle.ec20.specs.Labels.{rest, opens_after, opens_of, Stands, label_fault}
 use Rattle.ec20.specs.declared.Control.{Control}
 use Rattle.ec20.specs.declared.Control.TheVariants.{Plain, Opens, Closes, Jumps, Marks, Ends}
-use Rattle.ec20.specs.declared.Found.{Found}
-use Rattle.ec20.specs.declared.Found.TheVariants.{At, Nowhere}
+use Rattle.ec20.specs.Found.{Found}
+use Rattle.ec20.specs.Found.{At, Nowhere}
 use Rattle.labels.specs.Homes.{home_in, Homes, home_around, home_after}
 use Rattle.labels.specs.Sound.{Sound}
 

@@ -11,7 +11,7 @@ use Rattle.ec20.specs.Control.{Controls, closes, marks, search_body, found_in_bo
 use Rattle.ec20.specs.Walkers.{shift_of, turn_of, by_turn}
 use Rattle.ec20.specs.declared.Control.TheVariants.{Plain, Opens, Closes, Jumps, Marks, Ends}
 use Rattle.ec20.specs.declared.Control.{Control}
-use Rattle.ec20.specs.declared.Found.TheVariants.{At, Nowhere}
+use Rattle.ec20.specs.Found.{At, Nowhere}
 use Rattle.ec20.specs.declared.Turn.TheVariants.{Hit, Stop, On}
 use Rattle.ec20.specs.declared.Turn.{Turn}
 use Rattle.ec20.specs.Labels.{label_fault}

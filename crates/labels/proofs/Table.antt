@@ -12,8 +12,8 @@ use lib.ListN.{get_or, length, set, replicate, length-set, length-replicate}
 use lib.Seq.{get_or-set_same, get_or-set_other, ext_get_or}
 use Rattle.ec20.specs.Basics.{first_at}
 use Rattle.ec20.specs.Control.{Controls, marks}
-use Rattle.ec20.specs.declared.Found.{Found}
-use Rattle.ec20.specs.declared.Found.TheVariants.{At, Nowhere}
+use Rattle.ec20.specs.Found.{Found}
+use Rattle.ec20.specs.Found.{At, Nowhere}
 use Rattle.labels.proofs.Laws.{passes, fails, none}
 use Rattle.labels.specs.Places.{one_more, Places}
 

@@ -15,7 +15,7 @@ use Rattle.ec20.specs.Roles.{is_read, is_written}
 use Rattle.ec20.specs.UseMap.{holds, record_has, some_record, marked_read, marked_written, map_for}
 use Rattle.ec20.specs.declared.Operand.{Operand}
 use Rattle.ec20.specs.declared.Place.{Place}
-use Rattle.ec20.specs.declared.Verdict.TheVariants.{Accepted}
+use Rattle.ec20.specs.Verdict.{Accepted}
 use Rattle.marks.proofs.Maps.{map-marked}
 use Rattle.marks.specs.Marked.{marked}
 use Rattle.refusals.proofs.Has.{has_one, one_has}

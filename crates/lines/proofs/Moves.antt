@@ -3,6 +3,7 @@ use Prim.Native.Nat.{ℕ, ◌≤◌}
 use mathlib.Core.List.{List}
 use mathlib.Core.Path.{◌≡◌, refl, sym, ap, ◌∙◌}
 use native.Mathlib.Omega.{arith}
+use Rattle.std.specs.Prelude.{Err, Ok}
 use Rattle.ec20.proofs.NoFault.{accepted-records}
 use Rattle.ec20.proofs.Tests.{one_answer}
 use Rattle.ec20.specs.Basics.{then}
@@ -11,13 +12,13 @@ use Rattle.ec20.specs.Devices.{Device, ec20}
 use Rattle.ec20.specs.File.{count_of, records_of}
 use Rattle.ec20.specs.Move.{Block, Pool, Move, block_fault, pool_fault, block_work, split_fault, judge_move, place_of, move_to, move_if, move_after, move_for, move_of}
 use Rattle.ec20.specs.Operands.{first_bad}
-use Rattle.ec20.specs.declared.Found.{Found}
-use Rattle.ec20.specs.declared.Found.TheVariants.{At, Nowhere}
-use Rattle.ec20.specs.declared.Judged.{Judged}
-use Rattle.ec20.specs.declared.Judged.TheVariants.{Fine, Fault}
-use Rattle.ec20.specs.declared.Moved.{Moved}
-use Rattle.ec20.specs.declared.Verdict.{Verdict}
-use Rattle.ec20.specs.declared.Verdict.TheVariants.{Accepted, Refused as Unfit}
+use Rattle.ec20.specs.Found.{Found}
+use Rattle.ec20.specs.Found.{At, Nowhere}
+use Rattle.ec20.specs.Judged.{Judged}
+use Rattle.ec20.specs.Judged.{Fine, Fault}
+use Rattle.ec20.specs.Moved.{Moved}
+use Rattle.ec20.specs.Verdict.{Verdict}
+use Rattle.ec20.specs.Verdict.{Accepted, Refused as Unfit}
 use Rattle.lines.proofs.LineLaws.{judged-10, judged-11, judged-12, judged-13, some_words, pool-order, pool-words}
 use Rattle.lines.specs.Lines.{Line10, Line11, Line12, Line13}
 use Rattle.lines.specs.Table.{Passes, Not10, Not11, Not12, Not13, Told, told_1_8, told_10, told_11, told_12, told_13, told_14, moved}
@@ -74,17 +75,17 @@ module _ (v : Device) (f : List ℕ) (b : Block) (l : Pool) where
       → (Not10 v b → Judges 13 (count_of f) line-13 m)
       → (Not10 v b → Not11 v l → Finds z)
       → Told v f b l (move_if (then i (then j (then k m))) z f b).answer
-  by_order w (Fault n r) j k m z x y u s h = rw (x.0, x.1) (told_10 w x.2)
-  by_order w Fine (Fault n r) k m z x y u s h = rw (y.0, y.1) (told_11 w x y.2)
-  by_order w Fine Fine (Fault n r) m z x y u s h = let t = u x in rw (t.0, t.1) (told_12 w x y t.2)
-  by_order w Fine Fine Fine (Fault n r) z x y u s h = let t = s x in rw t.0 (told_13 w x y (u x) t.1)
+  by_order w (Err r2) j k m z x y u s h = rw (x.0, x.1) (told_10 w x.2)
+  by_order w Fine (Err r2) k m z x y u s h = rw (y.0, y.1) (told_11 w x y.2)
+  by_order w Fine Fine (Err r2) m z x y u s h = let t = u x in rw (t.0, t.1) (told_12 w x y t.2)
+  by_order w Fine Fine Fine (Err r2) z x y u s h = let t = s x in rw t.0 (told_13 w x y (u x) t.1)
   by_order w Fine Fine Fine Fine z x y u s h = by_place w x y (u x) (s x) z (h x y)
 
   by-verdict : (r : Verdict) → check_for v f ≡ r → Told v f b l (move_after v r f b l).answer
   unfolding judge_move
-  by-verdict (Unfit m k) e = told_1_8 e
-  by-verdict (Accepted n s) e =
-      let w : Passes v f = record { records = n; steps = s; accepted = e } in
+  by-verdict (Err r) e = told_1_8 e
+  by-verdict (Ok a) e =
+      let w : Passes v f = record { records = a.records; steps = a.steps; accepted = e } in
       by_order w (block_fault v b) (pool_fault v l) (block_work v b) (split_fault (records_of f) b) (place_of v (records_of f) b l)
       (judged-10 v b) (judged-11 v l) (judged-12 v b) (λ x. judged-13 (records_of f) b (some_words v b x)) (finds w)
 

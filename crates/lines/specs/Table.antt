@@ -4,9 +4,9 @@ use Rattle.ec20.specs.Check.{check_for}
 use Rattle.ec20.specs.Devices.{Device}
 use Rattle.ec20.specs.File.{count_of, records_of}
 use Rattle.ec20.specs.Move.{Block, Pool}
-use Rattle.ec20.specs.declared.Moved.{Moved}
-use Rattle.ec20.specs.declared.Moved.TheVariants.{To, Refused}
-use Rattle.ec20.specs.declared.Verdict.TheVariants.{Accepted, Refused as Unfit}
+use Rattle.ec20.specs.Moved.{Moved}
+use Rattle.ec20.specs.Moved.{To, Refused}
+use Rattle.ec20.specs.Verdict.{Accepted, Refused as Unfit}
 use Rattle.lines.specs.Lines.{Line10, Line11, Line12, Line13}
 use Rattle.places.specs.Right.{Right}
 use Rattle.refusals.specs.First.{First, Never}

@@ -6,12 +6,13 @@ use Prim.Native.Nat.{ℕ, zero, suc, ◌+◌, ◌*◌, ◌<◌, ◌≤◌}
 use native.Mathlib.Decide.{ℕ_discrete, dec_lt}
 use native.Mathlib.Omega.{arith}
 use borrow.Author.Tests.{eq-eqb, ne_eqb, lt-ltb, le-ltb}
+use Rattle.std.specs.Prelude.{Ok}
 use Rattle.ec20.specs.declared.Control.{Control}
 use Rattle.ec20.specs.declared.Control.TheVariants.{Plain, Opens, Closes, Jumps, Marks, Ends}
 use Rattle.ec20.specs.declared.Act.{Act}
 use Rattle.ec20.specs.declared.Act.TheVariants.{Go, Enter, Leave, Finish, Refuse}
-use Rattle.ec20.specs.declared.Walked.{Walked}
-use Rattle.ec20.specs.declared.Walked.TheVariants.{Done, Bad}
+use Rattle.ec20.specs.Walked.{Walked}
+use Rattle.ec20.specs.Walked.{Done, Bad}
 use Rattle.ec20.specs.Control.{Controls}
 use Rattle.ec20.specs.Walkers.{last_act, mid_act, act_of, plus, follow, by_act, sequence_of}
 use Rattle.loops.specs.Capped.{cap}
@@ -54,19 +55,19 @@ fit code count k d inside =
 
 -- what was walked from record k on, with d loops open
 unfoldable pub Ended : ℕ → ℕ → ℕ → Walked → Type 0
-Ended count k d (Done m w) = (k ≤ m) × ((m ≤ count) × (0 < d → m + 1 < count))
+Ended count k d (Ok a) = (k ≤ a.next) × ((a.next ≤ count) × (0 < d → a.next + 1 < count))
 Ended count k d (Bad b) = Unit {0}
 
 ended-plus : (count k k' d s : ℕ) (x : Walked) → k ≤ k' → Ended count k' d x → Ended count k d (plus s x)
 unfolding Ended plus
-ended-plus count k k' d s (Done m w) h e = (omega arith, e.1)
+ended-plus count k k' d s (Ok a) h e = (omega arith, e.1)
 ended-plus count k k' d s (Bad b) h e = tt
 
 ended-follow : (count k d n : ℕ) (x : Walked) (after : ℕ → Walked) → Ended count (k + 1) (d + 1) x → ((m : ℕ) → m < count → Ended count m d (after m)) → Ended count k d (follow n x after)
 unfolding Ended follow
-ended-follow count k d n (Done m w) after e h =
-    let q : m + 1 < count = e.1.1 (omega arith) in
-    ended-plus count k (m + 1) d (1 + n * (w + 1)) (after (m + 1)) (omega arith) (h (m + 1) q)
+ended-follow count k d n (Ok a) after e h =
+    let q : a.next + 1 < count = e.1.1 (omega arith) in
+    ended-plus count k (a.next + 1) d (1 + n * (a.steps + 1)) (after (a.next + 1)) (omega arith) (h (a.next + 1) q)
 ended-follow count k d n (Bad b) after e h = tt
 
 ended-act : (count k d : ℕ) (a : Act) (walk : ℕ → ℕ → Walked) → k < count → Fit count k d a → ((m j : ℕ) → m < count → Ended count m j (walk m j)) → Ended count k d (by_act a k d walk)

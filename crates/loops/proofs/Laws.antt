@@ -5,9 +5,10 @@ use Prim.Native.Nat.{ℕ, zero, suc, ◌+◌, ◌-◌, ◌*◌, ◌<◌, ◌≤�
 use native.Mathlib.Nat.{zero-mul, suc-mul, min-eq_left, min-eq_right, le-mul_of_pos_right, le_refl}
 use native.Mathlib.Decide.{dec_le}
 use native.Mathlib.Omega.{arith}
+use Rattle.std.specs.Prelude.{Ok}
 use Rattle.ec20.specs.declared.Act.TheVariants.{Go, Enter, Leave, Finish, Refuse}
-use Rattle.ec20.specs.declared.Walked.{Walked}
-use Rattle.ec20.specs.declared.Walked.TheVariants.{Done, Bad}
+use Rattle.ec20.specs.Walked.{Walked}
+use Rattle.ec20.specs.Walked.{Done, Bad}
 use Rattle.ec20.specs.Control.{Controls}
 use Rattle.ec20.specs.Walkers.{act_of, plus, follow, by_act, sequence_of}
 use Rattle.loops.specs.Capped.{cap, capped}
@@ -18,12 +19,12 @@ use Rattle.loops.proofs.Ends.{Fit, fit, Ended, ended}
 
 plus-capped : (s : ℕ) (x : Walked) → capped (plus s (capped x)) ≡ capped (plus s x)
 unfolding capped plus
-plus-capped s (Done m w) = ap (Done m) (omega arith)
+plus-capped s (Ok a) = ap (Done a.next) (omega arith)
 plus-capped s (Bad k) = refl
 
 capped-plus : (s : ℕ) (x : Walked) → capped (plus (min s cap) x) ≡ capped (plus s x)
 unfolding capped plus
-capped-plus s (Done m w) = ap (Done m) (omega arith)
+capped-plus s (Ok a) = ap (Done a.next) (omega arith)
 capped-plus s (Bad k) = refl
 
 body-capped : (n w : ℕ) → min (1 + n * (min w cap + 1)) cap ≡ min (1 + n * (w + 1)) cap
@@ -42,47 +43,47 @@ passes-capped n w =
 -- no steps ahead, and one part of the steps ahead of the other
 none_ahead : (x : Walked) → capped (plus 0 (capped x)) ≡ capped x
 unfolding capped plus
-none_ahead (Done m w) = ap (Done m) (omega arith)
+none_ahead (Ok a) = ap (Done a.next) (omega arith)
 none_ahead (Bad k) = refl
 
 both-ahead : (s t : ℕ) (x : Walked) → capped (plus s (capped (plus t x))) ≡ capped (plus (min (s + t) cap) x)
 unfolding capped plus
-both-ahead s t (Done m w) = ap (Done m) (omega arith)
+both-ahead s t (Ok a) = ap (Done a.next) (omega arith)
 both-ahead s t (Bad k) = refl
 
 loop-capped : (n : ℕ) (x : Walked) → capped (loop_of n (capped x)) ≡ capped (loop_of n x)
 unfolding capped loop_of
-loop-capped n (Done m w) = ap (Done (m + 1)) (body-capped n w)
+loop-capped n (Ok a) = ap (Done (a.next + 1)) (body-capped n a.steps)
 loop-capped n (Bad k) = refl
 
 -- what comes after a loop, where the loop was walked
 follow-done : (n : ℕ) (x : Walked) (m w : ℕ) (after : ℕ → Walked) (r : Walked) → Done m w ≡ capped (loop_of n x) → r ≡ capped (after m) → capped (plus w r) ≡ capped (follow n x after)
 unfolding capped loop_of follow
-follow-done n (Done m' w') m w after r p q =
-    let a : m ≡ m' + 1 = cc in
-    let b : w ≡ min (1 + n * (w' + 1)) cap = cc in
-    rw (q, a, b) (plus-capped (min (1 + n * (w' + 1)) cap) (after (m' + 1)) ∙ capped-plus (1 + n * (w' + 1)) (after (m' + 1)))
+follow-done n (Ok a2) m w after r p q =
+    let a : m ≡ a2.next + 1 = cc in
+    let b : w ≡ min (1 + n * (a2.steps + 1)) cap = cc in
+    rw (q, a, b) (plus-capped (min (1 + n * (a2.steps + 1)) cap) (after (a2.next + 1)) ∙ capped-plus (1 + n * (a2.steps + 1)) (after (a2.next + 1)))
 follow-done n (Bad k) m w after r p q = let z : ◌≡◌ {A = ℕ} 0 1 = cc in absurd (omega arith)
 
 follow-bad : (n : ℕ) (x : Walked) (k : ℕ) (after : ℕ → Walked) → Bad k ≡ capped (loop_of n x) → Bad k ≡ capped (follow n x after)
 unfolding capped loop_of follow
-follow-bad n (Done m w) k after p = let z : ◌≡◌ {A = ℕ} 0 1 = cc in absurd (omega arith)
+follow-bad n (Ok a) k after p = let z : ◌≡◌ {A = ℕ} 0 1 = cc in absurd (omega arith)
 follow-bad n (Bad k') k after p = p
 
 -- How far what was walked reaches
 
 small-capped : (count k d : ℕ) (x : Walked) → count ≤ 2000 → Ended count k d x → Small (capped x)
 unfolding Ended Small capped
-small-capped count k d (Done m w) h e = (omega arith, omega arith)
+small-capped count k d (Ok a) h e = (omega arith, omega arith)
 small-capped count k d (Bad b) h e = tt
 
 -- a loop ends before the last record, after its first
 after-capped : (count k d n m w : ℕ) (x : Walked) → 0 < d → Ended count k d x → Done m w ≡ capped (loop_of n x) → (k < m) × ((m < count) × (w ≤ cap))
 unfolding Ended capped loop_of
-after-capped count k d n m w (Done m' w') h e p =
-    let a : m ≡ m' + 1 = cc in
-    let b : w ≡ min (1 + n * (w' + 1)) cap = cc in
-    let q : m' + 1 < count = e.1.1 h in
+after-capped count k d n m w (Ok a2) h e p =
+    let a : m ≡ a2.next + 1 = cc in
+    let b : w ≡ min (1 + n * (a2.steps + 1)) cap = cc in
+    let q : a2.next + 1 < count = e.1.1 h in
     (omega arith, (omega arith, omega arith))
 after-capped count k d n m w (Bad b) h e p = let z : ◌≡◌ {A = ℕ} 0 1 = cc in absurd (omega arith)
 

@@ -1,7 +1,7 @@
 -- What the two walkers of the structure checker tell each other.
-use Rattle.std.specs.Prelude.{ℕ, ◌+◌, ◌-◌, ◌*◌, ◌≤◌, ◌≡◌, List}
-use Rattle.ec20.specs.declared.Walked.{Walked}
-use Rattle.ec20.specs.declared.Walked.TheVariants.{Done, Bad}
+use Rattle.std.specs.Prelude.{ℕ, ◌+◌, ◌-◌, ◌*◌, ◌≤◌, ◌≡◌, List, Ok}
+use Rattle.ec20.specs.Walked.{Walked}
+use Rattle.ec20.specs.Walked.{Done, Bad}
 use Rattle.ec20.specs.Code.{program_in}
 use Rattle.ec20.specs.Control.{Controls, controls_of}
 use Rattle.ec20.specs.File.{records_from}
@@ -14,7 +14,7 @@ controls_in f first count = controls_of (program_in (records_from f first count)
 
 -- a loop of n passes whose body was walked up to its NEXT: "a loop counting 1 + n x (W of its body + 1)"
 unfoldable pub loop_of : ℕ → Walked → Walked
-loop_of n (Done m w) = Done (m + 1) (1 + n * (w + 1))
+loop_of n (Ok a) = Done (a.next + 1) (1 + n * (a.steps + 1))
 loop_of n (Bad k) = Bad k
 
 -- r is what the sequence from record k on comes to, with d loops open; as many records as are left are enough, and more change nothing
@@ -28,5 +28,5 @@ IsLoop code count k d passes r =
 
 -- small enough that one more loop around it does not overflow
 unfoldable pub Small : Walked → Type 0
-Small (Done m w) = (m ≤ 2000) × (w ≤ cap)
+Small (Ok a) = (a.next ≤ 2000) × (a.steps ≤ cap)
 Small (Bad k) = Unit {0}

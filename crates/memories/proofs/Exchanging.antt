@@ -12,8 +12,8 @@ use Rattle.ec20.specs.Exchange.{Exchange, exchange_of}
 use Rattle.ec20.specs.Memory.{memory, with_d}
 use Rattle.ec20.specs.Move.{Block}
 use Rattle.ec20.specs.Plant.{Plant, plant}
-use Rattle.ec20.specs.declared.Exchanged.{Exchanged}
-use Rattle.ec20.specs.declared.Exchanged.TheVariants.{Refused}
+use Rattle.ec20.specs.Exchanged.{Exchanged}
+use Rattle.ec20.specs.Exchanged.{Refused}
 use Rattle.image.proofs.Inverse.{plant-sizes}
 use Rattle.image.specs.Image.{plant_of, image_of, Sizes}
 use Rattle.memories.proofs.After.{tables_after, bytes_after, no_byte}

@@ -6,8 +6,8 @@ use Rattle.ec20.specs.Exchange.{exchange_of}
 use Rattle.ec20.specs.Memory.{with_m, with_d}
 use Rattle.ec20.specs.Move.{Block}
 use Rattle.ec20.specs.Plant.{Plant, plant}
-use Rattle.ec20.specs.declared.Exchanged.{Exchanged}
-use Rattle.ec20.specs.declared.Exchanged.TheVariants.{Refused as NotExchanged}
+use Rattle.ec20.specs.Exchanged.{Exchanged}
+use Rattle.ec20.specs.Exchanged.{Refused as NotExchanged}
 use Rattle.modbus.specs.Answer.{answer_of}
 use Rattle.modbus.specs.declared.Answered.{Answered}
 use Rattle.modbus.specs.declared.Answered.TheVariants.{Refused}

@@ -3,7 +3,7 @@ ghost use Rattle.std.specs.Prelude.{ℕ, eqb, ◌≡◌};
 ghost use Rattle.ec20.specs.Basics.{pick};
 ghost use Rattle.ec20.specs.Exchange.{exchange_of};
 ghost use Rattle.ec20.specs.Move.{block};
-ghost use Rattle.ec20.specs.declared.Exchanged.TheVariants.{Refused};
+ghost use Rattle.ec20.specs.Exchanged.{Refused};
 ghost use Rattle.image.specs.Image.{plant_of, image_of};
 ghost use Rattle.memories.specs.Images.{exchange_in};
 

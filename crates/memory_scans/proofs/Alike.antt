@@ -22,7 +22,7 @@ use Rattle.moving.specs.Series.{series}
 use Rattle.turns.proofs.Inputs.{with_inputs, with-inputs}
 use Rattle.turns.specs.declared.turn.Turn.{Turn}
 use Rattle.turns.specs.Turns.{MovedTo, answer_of, FirstApart, Alike}
-use Rattle.ec20.specs.declared.Scanned.{Scanned}
+use Rattle.ec20.specs.Scanned.{Scanned}
 use Rattle.memory_scans.specs.Pairs.{Paired}
 use Rattle.memory_scans.specs.Scans.{scan_in}
 

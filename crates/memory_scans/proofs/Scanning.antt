@@ -8,6 +8,7 @@ use lib.Dec.{eqb}
 use lib.IntN.{ℤ}
 use lib.ListN.{length, take}
 use lib.Seq.{take_all}
+use Rattle.std.specs.Prelude.{Err, Ok}
 use Rattle.ec20.proofs.Laws.{refused_keeps}
 use Rattle.ec20.specs.Basics.{pick}
 use Rattle.ec20.specs.Check.{check_of}
@@ -16,10 +17,10 @@ use Rattle.ec20.specs.Devices.{ec20}
 use Rattle.ec20.specs.Memory.{memory, sized}
 use Rattle.ec20.specs.Plant.{Plant, plant}
 use Rattle.ec20.specs.Scan.{Scan, scan, fitting, scan_if, scan_for, scan_of}
-use Rattle.ec20.specs.declared.Scanned.{Scanned}
-use Rattle.ec20.specs.declared.Scanned.TheVariants.{Refused}
-use Rattle.ec20.specs.declared.Verdict.{Verdict}
-use Rattle.ec20.specs.declared.Verdict.TheVariants.{Accepted, Refused as Unfit}
+use Rattle.ec20.specs.Scanned.{Scanned}
+use Rattle.ec20.specs.Scanned.{Refused}
+use Rattle.ec20.specs.Verdict.{Verdict}
+use Rattle.ec20.specs.Verdict.{Accepted, Refused as Unfit}
 use Rattle.image.proofs.Inverse.{plant-sizes}
 use Rattle.image.specs.Image.{plant_of, image_of, Sizes}
 use Rattle.memories.proofs.After.{tables_after, bytes_after, no_byte}
@@ -29,8 +30,8 @@ use Rattle.memory_scans.specs.Scans.{unsized, scan_in}
 -- a scan over tables of which one has a wrong size
 wrong_size : (v : Verdict) (p : Program) (e n : ℕ) (q : Plant) → sized ec20 q.mem ≡ false → scan_if ec20 v p e n q ≡ scan (unsized v) q
 unfolding unsized fitting
-wrong_size (Accepted k w) p e n q h = rw h refl
-wrong_size (Unfit m k) p e n q h = refl
+wrong_size (Ok a) p e n q h = rw h refl
+wrong_size (Err r) p e n q h = refl
 
 module _ (f : List ℕ) (e n : ℕ) where
   scan-wrong : (q : Plant) → sized ec20 q.mem ≡ false → scan_of f e n q ≡ scan (unsized (check_of f)) q

@@ -1,19 +1,19 @@
 -- A scan over a memory file of so many bytes. One of another size than 16,892 is refused by 9, "memory table of wrong size", which "the scan adds" to
 -- what the check refuses. So is one of the right size with other leftovers than "0 to 9 ms and 0 to 99 ms", by the scan itself.
-use Rattle.std.specs.Prelude.{ℕ, List, eqb}
+use Rattle.std.specs.Prelude.{ℕ, List, eqb, Err, Ok}
 use Rattle.ec20.specs.Basics.{pick}
 use Rattle.ec20.specs.Check.{check_of}
 use Rattle.ec20.specs.Plant.{Plant}
 use Rattle.ec20.specs.Scan.{Scan, scan, scan_of}
-use Rattle.ec20.specs.declared.Scanned.{Scanned}
-use Rattle.ec20.specs.declared.Scanned.TheVariants.{Refused}
-use Rattle.ec20.specs.declared.Verdict.{Verdict}
-use Rattle.ec20.specs.declared.Verdict.TheVariants.{Accepted, Refused as Unfit}
+use Rattle.ec20.specs.Scanned.{Scanned}
+use Rattle.ec20.specs.Scanned.{Refused}
+use Rattle.ec20.specs.Verdict.{Verdict}
+use Rattle.ec20.specs.Verdict.{Accepted, Refused as Unfit}
 
 -- the answer over a memory file of another size
 unfoldable pub unsized : Verdict → Scanned
-unsized (Accepted n w) = Refused 9 0
-unsized (Unfit m k) = Refused m k
+unsized (Ok a) = Refused 9 0
+unsized (Err r) = Err r
 
 -- the program file, the size of the memory file, elapsed milliseconds, budget, memory and leftovers
 unfoldable pub scan_in : List ℕ → ℕ → ℕ → ℕ → Plant → Scan

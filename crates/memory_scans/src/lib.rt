@@ -7,7 +7,7 @@ pub mod pairs;
 
 ghost use Rattle.std.specs.Prelude.{ℕ, ◌≤◌, eqb, ◌≡◌};
 ghost use Rattle.ec20.specs.Basics.{pick};
-ghost use Rattle.ec20.specs.declared.Scanned.TheVariants.{Refused};
+ghost use Rattle.ec20.specs.Scanned.{Refused};
 ghost use Rattle.engine.specs.Made.{Made, Goes};
 ghost use Rattle.image.specs.Image.{plant_of, image_of};
 ghost use Rattle.memory_scans.specs.Scans.{scan_in};

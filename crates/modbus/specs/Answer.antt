@@ -1,7 +1,7 @@
 -- "Answer Modbus RTU requests as the public Modbus application protocol and serial line documents state."
-use Rattle.std.specs.Prelude.{ℕ, ◌&&◌, List, leb, eqb, ℤ, length}
-use Rattle.ec20.specs.declared.Judged.{Judged}
-use Rattle.ec20.specs.declared.Judged.TheVariants.{Fine, Fault}
+use Rattle.std.specs.Prelude.{ℕ, ◌&&◌, List, leb, eqb, ℤ, length, Err}
+use Rattle.ec20.specs.Judged.{Judged}
+use Rattle.ec20.specs.Judged.{Fine, Fault}
 use Rattle.ec20.specs.Basics.{pick, then}
 use Rattle.modbus.specs.declared.Answered.{Answered}
 use Rattle.modbus.specs.declared.Answered.TheVariants.{Refused, Silent, Reply}
@@ -50,7 +50,7 @@ heard f m d b =
 
 abbrev pub answer_if : Judged → ℕ → List ℕ → List ℕ → List ℤ → List ℕ → Answer
 answer_if Fine own f m d b = pick (is_heard own f) (heard f m d b) (silent m d b)
-answer_if (Fault n k) own f m d b = record { answer = Refused n k; m = m; d = d; reply = b }
+answer_if (Err r) own f m d b = record { answer = Err r; m = m; d = d; reply = b }
 
 -- the frame f, at the station own, over M, D and the reply buffer b
 unfoldable pub answer_of : ℕ → List ℕ → List ℕ → List ℤ → List ℕ → Answer

@@ -6,9 +6,9 @@ use mathlib.Core.Path.{◌≡◌, refl, ap, ◌∙◌}
 use native.Mathlib.Omega.{arith}
 use lib.ListN.{length}
 use Rattle.ec20.specs.Basics.{pick, first_fault}
-use Rattle.ec20.specs.declared.Judged.TheVariants.{Fine}
-use Rattle.ec20.specs.declared.Verdict.{Verdict}
-use Rattle.ec20.specs.declared.Verdict.TheVariants.{Refused}
+use Rattle.ec20.specs.Judged.{Fine}
+use Rattle.ec20.specs.Verdict.{Verdict}
+use Rattle.ec20.specs.Verdict.{Refused}
 use Rattle.ec20.specs.Check.{judge_file, check_for}
 use Rattle.ec20.specs.Code.{program_of}
 use Rattle.ec20.specs.Devices.{Device}

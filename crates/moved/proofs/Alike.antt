@@ -2,13 +2,14 @@
 -- D numbers.
 use Prim.Native.Nat.{ℕ, zero, suc}
 use mathlib.Core.Path.{◌≡◌, refl, ap, ap₂}
+use Rattle.std.specs.Prelude.{Err}
 use Rattle.ec20.specs.Basics.{then}
 use Rattle.ec20.specs.declared.Instr.{Instr}
 use Rattle.ec20.specs.declared.Instr.TheVariants.{Nop, Contact, Compare, Join, Branch, Coil, Timer, For, Next, Jump, Label, End, Word}
-use Rattle.ec20.specs.declared.Judged.{Judged}
-use Rattle.ec20.specs.declared.Judged.TheVariants.{Fine, Fault}
+use Rattle.ec20.specs.Judged.{Judged}
+use Rattle.ec20.specs.Judged.{Fine, Fault}
 use Rattle.ec20.specs.declared.Rung.{Rung}
-use Rattle.ec20.specs.declared.Verdict.TheVariants.{Accepted}
+use Rattle.ec20.specs.Verdict.{Accepted}
 use Rattle.ec20.specs.Check.{judge_program, verdict_of}
 use Rattle.ec20.specs.Code.{Program}
 use Rattle.ec20.specs.Control.{Controls}
@@ -72,4 +73,4 @@ module _ (σ : ℕ → ℕ) where
 
     pub same-verdict : (j : Judged) → verdict_of (rename_program σ p) j ≡ verdict_of p j
     same-verdict Fine = ap (λ (c : Controls). Accepted p.count (w_in c p.count)) (controls-same σ p)
-    same-verdict (Fault n k) = refl
+    same-verdict (Err r) = refl

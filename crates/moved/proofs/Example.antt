@@ -11,8 +11,8 @@ use borrow.Author.Tests.{ltb-true}
 use Rattle.ec20.proofs.Computing.{computing}
 use Rattle.ec20.proofs.Files.{SM, D, r0, r1, r2, r3, file}
 use Rattle.ec20.proofs.Tests.{both}
-use Rattle.ec20.specs.declared.Moved.TheVariants.{To}
-use Rattle.ec20.specs.declared.Verdict.TheVariants.{Accepted}
+use Rattle.ec20.specs.Moved.{To}
+use Rattle.ec20.specs.Verdict.{Accepted}
 use Rattle.ec20.specs.Check.{check_of}
 use Rattle.ec20.specs.Devices.{ec20}
 use Rattle.ec20.specs.File.{byte_at}

@@ -5,9 +5,9 @@ use mathlib.Core.Path.{◌≡◌, ap}
 use lib.IntN.{ℤ}
 use lib.ListN.{length}
 use borrow.Author.Tests.{eq-eqb, le-leb}
-use Rattle.ec20.specs.declared.Exchanged.TheVariants.{Done}
-use Rattle.ec20.specs.declared.Judged.{Judged}
-use Rattle.ec20.specs.declared.Judged.TheVariants.{Fine}
+use Rattle.ec20.specs.Exchanged.{Done}
+use Rattle.ec20.specs.Judged.{Judged}
+use Rattle.ec20.specs.Judged.{Fine}
 use Rattle.ec20.specs.Devices.{Device}
 use Rattle.ec20.specs.Exchange.{swapped, exchanged, size_fault, place_fault, judge_exchange, exchange_if, exchange_for}
 use Rattle.ec20.specs.Move.{Block, Pool}

@@ -4,16 +4,17 @@ use mathlib.Core.Bool.{true}
 use mathlib.Core.List.{List}
 use mathlib.Core.Path.{◌≡◌, refl, sym, ap, ◌∙◌}
 use native.Mathlib.Omega.{arith}
+use Rattle.std.specs.Prelude.{Err, Ok}
 use Rattle.ec20.proofs.NoFault.{then-fine, block_inside, pool-inside, place-parts, accepted-framed, accepted-records}
 use Rattle.ec20.proofs.Ranges.{is-inside}
 use Rattle.ec20.specs.Basics.{then}
-use Rattle.ec20.specs.declared.Found.{Found}
-use Rattle.ec20.specs.declared.Found.TheVariants.{At, Nowhere}
-use Rattle.ec20.specs.declared.Judged.{Judged}
-use Rattle.ec20.specs.declared.Judged.TheVariants.{Fine, Fault}
-use Rattle.ec20.specs.declared.Moved.TheVariants.{To, Refused}
-use Rattle.ec20.specs.declared.Verdict.{Verdict}
-use Rattle.ec20.specs.declared.Verdict.TheVariants.{Accepted, Refused as Unfit}
+use Rattle.ec20.specs.Found.{Found}
+use Rattle.ec20.specs.Found.{At, Nowhere}
+use Rattle.ec20.specs.Judged.{Judged}
+use Rattle.ec20.specs.Judged.{Fine, Fault}
+use Rattle.ec20.specs.Moved.{To, Refused}
+use Rattle.ec20.specs.Verdict.{Verdict}
+use Rattle.ec20.specs.Verdict.{Accepted, Refused as Unfit}
 use Rattle.ec20.specs.Check.{check_for}
 use Rattle.ec20.specs.Devices.{Device}
 use Rattle.ec20.specs.File.{framed, records_of}
@@ -51,13 +52,13 @@ module _ (v : Device) (f : List ℕ) (b : Block) (l : Pool) (q : ℕ) (g : List 
   by-judged : (x : Judged) → move_if x (place_of v (records_of f) b l) f b ≡ move (To q) g
       → (x ≡ Fine) × (place_of v (records_of f) b l ≡ At q) × (moved_file b q f ≡ g)
   by-judged Fine e = let h = by-found (place_of v (records_of f) b l) e in (refl, h.0, h.1)
-  by-judged (Fault m k) e = no_place e
+  by-judged (Err r) e = no_place e
 
   by-verdict : (x : Verdict) → check_for v f ≡ x → move_after v x f b l ≡ move (To q) g → Taken v f b l q g
-  by-verdict (Accepted n w) c e =
+  by-verdict (Ok a) c e =
       let h = by-judged (judge_move v (records_of f) b l) e in
-      record { frame = accepted-framed v f n w c; sound = accepted-records v f n w c; fine = h.0; found = h.1; file = h.2 }
-  by-verdict (Unfit m k) c e = no_place e
+      record { frame = accepted-framed v f a.records a.steps c; sound = accepted-records v f a.records a.steps c; fine = h.0; found = h.1; file = h.2 }
+  by-verdict (Err r) c e = no_place e
 
   pub taken : move_for v f b l ≡ move (To q) g → Taken v f b l q g
   unfolding move_for

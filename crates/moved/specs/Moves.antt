@@ -1,6 +1,6 @@
 -- What the moved file is.
 use Rattle.std.specs.Prelude.{ℕ, List, ◌≡◌, ℤ, length}
-use Rattle.ec20.specs.declared.Exchanged.TheVariants.{Done}
+use Rattle.ec20.specs.Exchanged.{Done}
 use Rattle.ec20.specs.Check.{check_for}
 use Rattle.ec20.specs.Code.{program_of}
 use Rattle.ec20.specs.Devices.{Device}

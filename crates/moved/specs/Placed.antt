@@ -1,7 +1,7 @@
 -- What the mover has tested when it takes a place for a block.
 use Rattle.std.specs.Prelude.{ℕ, false, ◌≡◌}
 use Rattle.blocks.specs.Apart.{Apart}
-use Rattle.ec20.specs.declared.Judged.TheVariants.{Fine}
+use Rattle.ec20.specs.Judged.{Fine}
 use Rattle.ec20.specs.Devices.{Device, meets_work}
 use Rattle.ec20.specs.File.{Records}
 use Rattle.ec20.specs.Move.{Block, block, split_fault, touches}

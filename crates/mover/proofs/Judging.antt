@@ -5,8 +5,8 @@ use Rattle.ec20.specs.Basics.{then}
 use Rattle.ec20.specs.Devices.{ec20}
 use Rattle.ec20.specs.File.{Records}
 use Rattle.ec20.specs.Move.{Block, Pool, block_fault, pool_fault, block_work, split_fault, judge_move}
-use Rattle.ec20.specs.declared.Judged.{Judged}
-use Rattle.ec20.specs.declared.Judged.TheVariants.{Fine}
+use Rattle.ec20.specs.Judged.{Judged}
+use Rattle.ec20.specs.Judged.{Fine}
 use Rattle.mover.specs.Ready.{Sized}
 
 pub is-sized : (rs : Records) (b : Block) (l : Pool) {t : Judged} → t ≡ judge_move ec20 rs b l → t ≡ Fine

@@ -9,15 +9,15 @@ use Rattle.ec20.specs.Check.{check_of}
 use Rattle.ec20.specs.Devices.{ec20}
 use Rattle.ec20.specs.File.{Records, first_of, count_of, records_from, records_of, frame_of}
 use Rattle.ec20.specs.Move.{Block, Pool, Move, move, moved_byte, moved_file, judge_move, place_of, move_to, move_if, move_for, move_of}
-use Rattle.ec20.specs.declared.Found.{Found}
-use Rattle.ec20.specs.declared.Found.TheVariants.{At, Nowhere}
-use Rattle.ec20.specs.declared.Frame.{Frame}
-use Rattle.ec20.specs.declared.Frame.TheVariants.{Whole}
-use Rattle.ec20.specs.declared.Judged.{Judged}
-use Rattle.ec20.specs.declared.Judged.TheVariants.{Fine, Fault}
-use Rattle.ec20.specs.declared.Moved.TheVariants.{To, Refused}
-use Rattle.ec20.specs.declared.Verdict.{Verdict}
-use Rattle.ec20.specs.declared.Verdict.TheVariants.{Accepted, Refused as Unfit}
+use Rattle.ec20.specs.Found.{Found}
+use Rattle.ec20.specs.Found.{At, Nowhere}
+use Rattle.ec20.specs.Frame.{Frame}
+use Rattle.ec20.specs.Frame.{Whole}
+use Rattle.ec20.specs.Judged.{Judged}
+use Rattle.ec20.specs.Judged.{Fine, Fault}
+use Rattle.ec20.specs.Moved.{To, Refused}
+use Rattle.ec20.specs.Verdict.{Verdict}
+use Rattle.ec20.specs.Verdict.{Accepted, Refused as Unfit}
 
 module _ (f : List ℕ) (b : Block) where
   -- 14, or moved: by what the search found

@@ -9,8 +9,8 @@ use Rattle.ec20.proofs.Ranges.{is-inside}
 use Rattle.ec20.specs.Devices.{ec20}
 use Rattle.ec20.specs.File.{Records}
 use Rattle.ec20.specs.Move.{block, pool, is_place, place_of}
-use Rattle.ec20.specs.declared.Found.{Found}
-use Rattle.ec20.specs.declared.Found.TheVariants.{At}
+use Rattle.ec20.specs.Found.{Found}
+use Rattle.ec20.specs.Found.{At}
 use Rattle.mover.specs.Ready.{Sized}
 use Rattle.rewrite.specs.Numbers.{Below}
 

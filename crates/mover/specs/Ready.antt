@@ -3,7 +3,7 @@ use Rattle.std.specs.Prelude.{ℕ, ◌+◌, ◌<◌, ◌≤◌, List, ◌≡◌,
 use Rattle.ec20.specs.Devices.{Device}
 use Rattle.ec20.specs.File.{first_of, count_of, records_from}
 use Rattle.ec20.specs.Operands.{first_bad}
-use Rattle.ec20.specs.declared.Judged.TheVariants.{Fine}
+use Rattle.ec20.specs.Judged.{Fine}
 use Rattle.records.specs.Ranges.{Held}
 
 -- the file's own records, none of which 2, 3 or 4 refuses

@@ -6,7 +6,7 @@ ghost use Rattle.ec20.specs.Devices.{ec20};
 ghost use Rattle.ec20.specs.File.{framed, records_from, records_of};
 ghost use Rattle.ec20.specs.Move.{block, pool, move, judge_move, place_of, move_to, move_if, move_of};
 ghost use Rattle.ec20.specs.Operands.{first_bad};
-ghost use Rattle.ec20.specs.declared.Judged.TheVariants.{Fine};
+ghost use Rattle.ec20.specs.Judged.{Fine};
 ghost use Rattle.mover.specs.Ready.{Checked, Sized};
 ghost use Rattle.records.specs.Ranges.{Held};
 

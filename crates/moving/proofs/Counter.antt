@@ -4,7 +4,7 @@ use mathlib.Core.List.{List, [], ◌∷◌, map}
 use mathlib.Core.Path.{◌≡◌, refl}
 use lib.ListN.{get_or, replicate}
 use lib.IntN.{pos}
-use Rattle.ec20.specs.declared.Scanned.TheVariants.{Refused}
+use Rattle.ec20.specs.Scanned.{Refused}
 use Rattle.ec20.specs.Devices.{ec20}
 use Rattle.ec20.specs.Registers.{word_at}
 use Rattle.ec20.specs.Scan.{Scan}

@@ -9,7 +9,7 @@ use lib.IntN.{ℤ, pos, neg_ℤ}
 use borrow.Author.Tests.{le-ltb, le-leb}
 use Rattle.ec20.specs.declared.Operand.{Operand}
 use Rattle.ec20.specs.declared.Instr.{Instr}
-use Rattle.ec20.specs.declared.Verdict.TheVariants.{Accepted}
+use Rattle.ec20.specs.Verdict.{Accepted}
 use Rattle.ec20.specs.Devices.{ec20, kind_d, within}
 use Rattle.ec20.specs.Bits.{bit_at}
 use Rattle.ec20.specs.Code.{Program, program_of}

@@ -7,10 +7,11 @@ use native.Mathlib.Omega.{arith}
 use lib.Dec.{ltb}
 use lib.IntN.{ℤ}
 use borrow.Author.Tests.{ltb-true}
+use Rattle.std.specs.Prelude.{Err, Ok}
 use Rattle.ec20.specs.declared.Units.{Units}
 use Rattle.ec20.specs.declared.Instr.{Instr}
-use Rattle.ec20.specs.declared.Verdict.{Verdict}
-use Rattle.ec20.specs.declared.Verdict.TheVariants.{Accepted, Refused}
+use Rattle.ec20.specs.Verdict.{Verdict}
+use Rattle.ec20.specs.Verdict.{Accepted, Refused}
 use Rattle.ec20.specs.Devices.{Device}
 use Rattle.ec20.specs.File.{Records, records_of}
 use Rattle.ec20.specs.Code.{Program, code_of, program_of}
@@ -53,11 +54,11 @@ module _ (v : Device) (i : ℕ) where
   if-keeps : (a : Verdict) (p : Program) → ((k : ℕ) → Spared i (p.code k)) → (e budget : ℕ) (q : Plant)
       → word_at (scan_if v a p e budget q).plant.mem.d i ≡ word_at q.mem.d i
   unfolding timed_scan
-  if-keeps (Accepted n s) p spared e budget q =
-      picked (λ (s : Scan). word_at s.plant.mem.d i ≡ word_at q.mem.d i) (fitting v e q) _ _
+  if-keeps (Ok a) p spared e budget q =
+      picked (λ (a.steps : Scan). word_at a.steps.plant.mem.d i ≡ word_at q.mem.d i) (fitting v e q) _ _
       (λ _. run-kept p spared (units_in e q.rest) budget q.mem)
       (λ _. refl)
-  if-keeps (Refused n k) p spared e budget q = refl
+  if-keeps (Err r) p spared e budget q = refl
 
   -- KEPT: a word that no record marks written is after a scan what it was, for every device, file, accepted or not, elapsed time, budget and memory
   pub kept : (f : List ℕ) → marked_written (records_of f) i ≡ false → (e budget : ℕ) (q : Plant)

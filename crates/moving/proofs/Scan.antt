@@ -6,8 +6,9 @@ use mathlib.Core.Path.{◌≡◌, refl, sym, ap, subst, ◌∙◌}
 use lib.Dec.{leb, eqb}
 use lib.ListN.{length}
 use borrow.Author.Tests.{eqb-true}
-use Rattle.ec20.specs.declared.Verdict.{Verdict}
-use Rattle.ec20.specs.declared.Verdict.TheVariants.{Accepted, Refused}
+use Rattle.std.specs.Prelude.{Err, Ok}
+use Rattle.ec20.specs.Verdict.{Verdict}
+use Rattle.ec20.specs.Verdict.{Accepted, Refused}
 use Rattle.ec20.specs.Devices.{Device}
 use Rattle.ec20.specs.Code.{Program, program_of}
 use Rattle.ec20.specs.Check.{check_for}
@@ -45,12 +46,12 @@ module _ (σ : ℕ → ℕ) (v : Device) (h : Swap σ v.words) where
 
   if-sim : (a : Verdict) (p : Program) → ((k : ℕ) → Whole σ (p.code k)) → (e budget : ℕ) (q : Plant)
       → scan_if v a (rename_program σ p) e budget (ex_plant σ q) ≡ ex_scan σ (scan_if v a p e budget q)
-  if-sim (Accepted n s) p whole e budget q =
+  if-sim (Ok a) p whole e budget q =
       rw (fitting-same σ v e q)
       (pick-sim (ex_scan σ) (fitting v e q) _ _ _ _
       (λ t. timed-sim p whole e budget q (subst (Swap σ) (sym (fitting-words v e q t)) h))
       (λ _. refl))
-  if-sim (Refused n k) p whole e budget q = refl
+  if-sim (Err r) p whole e budget q = refl
 
   -- SCAN: two files of which the check says the same, the second's program the first's renamed by a swap of the D numbers that leaves no
   -- extent divided. For every memory, leftovers, elapsed time and budget a scan of the second on the exchanged table answers as a scan of the first

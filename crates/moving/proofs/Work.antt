@@ -7,11 +7,12 @@ use native.Mathlib.Omega.{arith}
 use native.Mathlib.Decide.{dec_lt}
 use lib.ListN.{length, get_or-eq_default}
 use lib.IntN.{pos}
+use Rattle.std.specs.Prelude.{Err, Ok}
 use Rattle.ec20.specs.declared.Operand.{Operand}
 use Rattle.ec20.specs.declared.Place.{Place}
 use Rattle.ec20.specs.declared.Rec.{Rec}
-use Rattle.ec20.specs.declared.Verdict.{Verdict}
-use Rattle.ec20.specs.declared.Verdict.TheVariants.{Accepted, Refused}
+use Rattle.ec20.specs.Verdict.{Verdict}
+use Rattle.ec20.specs.Verdict.{Accepted, Refused}
 use Rattle.ec20.specs.Devices.{Device, within}
 use Rattle.ec20.specs.Operands.{in_d, start_of, extent_of}
 use Rattle.ec20.specs.Roles.{is_written}
@@ -61,15 +62,15 @@ module _ (v : Device) (i : ℕ) (work : Work v i) where
 past-if : (v : Device) (a : Verdict) (p : Program) (i : ℕ) → v.words ≤ i → (e budget : ℕ) (q : Plant)
     → word_at (scan_if v a p e budget q).plant.mem.d i ≡ word_at q.mem.d i
 unfolding timed_scan
-past-if v (Accepted n s) p i h e budget q =
-    picked (λ (s : Scan). word_at s.plant.mem.d i ≡ word_at q.mem.d i) (fitting v e q) _ _
+past-if v (Ok a) p i h e budget q =
+    picked (λ (a.steps : Scan). word_at a.steps.plant.mem.d i ≡ word_at q.mem.d i) (fitting v e q) _ _
     (λ t.
     let u = units_in e q.rest in
     let l : length q.mem.d ≡ v.words = fitting-words v e q t in
     let k : length (run_scan v p u budget q.mem).mem.d ≡ length q.mem.d = length-scan v p u budget q.mem in
     get_or-eq_default (run_scan v p u budget q.mem).mem.d (pos 0) (omega arith) ∙ sym (get_or-eq_default q.mem.d (pos 0) (omega arith)))
     (λ _. refl)
-past-if v (Refused n k) p i h e budget q = refl
+past-if v (Err r) p i h e budget q = refl
 
 -- WORK: in a scan of an accepted file no word from the first of WORK on changes, for every device, elapsed time, budget and memory
 pub work-kept : (v : Device) (f : List ℕ) (n w : ℕ) → check_for v f ≡ Accepted n w → (i : ℕ) → v.work ≤ i → (e budget : ℕ) (q : Plant)

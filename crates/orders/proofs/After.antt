@@ -23,13 +23,13 @@ use Rattle.ec20.specs.File.{count_of, first_of, records_of}
 use Rattle.ec20.specs.Move.{Block, block, pool, touches, partly, block_fault, pool_fault, block_work, split_fault, is_place, judge_move}
 use Rattle.ec20.specs.Operands.{in_d, start_of, extent_of}
 use Rattle.ec20.specs.UseMap.{some_operand, record_has, some_record}
-use Rattle.ec20.specs.declared.Found.TheVariants.{Nowhere}
-use Rattle.ec20.specs.declared.Judged.{Judged}
-use Rattle.ec20.specs.declared.Judged.TheVariants.{Fine, Fault}
+use Rattle.ec20.specs.Found.{Nowhere}
+use Rattle.ec20.specs.Judged.{Judged}
+use Rattle.ec20.specs.Judged.{Fine, Fault}
 use Rattle.ec20.specs.declared.Operand.{Operand}
 use Rattle.ec20.specs.declared.Place.{Place}
 use Rattle.ec20.specs.declared.Rec.{Rec}
-use Rattle.ec20.specs.declared.Verdict.TheVariants.{Accepted}
+use Rattle.ec20.specs.Verdict.{Accepted}
 use Rattle.demands.specs.Demand3.{OfBytes}
 use Rattle.jobs.proofs.Laws.{all-fail}
 use Rattle.jobs.specs.Tasks.{Task, pool_of, back}

@@ -12,7 +12,7 @@ use Rattle.ec20.specs.Exchange.{exchanged}
 use Rattle.ec20.specs.Move.{move}
 use Rattle.ec20.specs.Plant.{Plant}
 use Rattle.ec20.specs.Scan.{Scan}
-use Rattle.ec20.specs.declared.Moved.TheVariants.{To}
+use Rattle.ec20.specs.Moved.{To}
 use Rattle.jobs.specs.Tasks.{Task, move_by, moved_by, exchanged_by}
 use Rattle.moving.specs.Series.{Input, series}
 use Rattle.orders.specs.Any.{Each, DisjointFrom, AllDisjoint, Fits, Reordered, as_it_is, swapped, behind, then, InTurn, none, next, Exchanged, no_more, one_more, with_exchanges, scan_exchanged_by, AnyOrder}

@@ -10,7 +10,7 @@ use Rattle.demands.specs.Demand3.{OfBytes}
 use Rattle.ec20.proofs.Files.{SM, D, r0, r1, r2, r3, file}
 use Rattle.ec20.specs.Devices.{ec20}
 use Rattle.ec20.specs.Move.{block, pool, move_for}
-use Rattle.ec20.specs.declared.Moved.TheVariants.{To, Refused}
+use Rattle.ec20.specs.Moved.{To, Refused}
 use Rattle.jobs.proofs.Computing.{jobbing}
 use Rattle.jobs.specs.Job.{job_answer}
 use Rattle.jobs.specs.Tasks.{Task, task, move_by, tasks_meet, moved_by}

@@ -17,7 +17,7 @@ use Rattle.ec20.proofs.Tests.{differ, either, neither}
 use Rattle.ec20.specs.Check.{check_for}
 use Rattle.ec20.specs.Devices.{Device, ec20, meets}
 use Rattle.ec20.specs.Exchange.{swapped, exchange_by, exchanged}
-use Rattle.ec20.specs.declared.Verdict.TheVariants.{Accepted}
+use Rattle.ec20.specs.Verdict.{Accepted}
 use Rattle.jobs.proofs.Accepts.{Accepts, done-accepts, accepts-done}
 use Rattle.jobs.specs.Job.{job, job_if, job_for, job_answer, right_table, task_at}
 use Rattle.jobs.specs.Tasks.{Task, tasks_meet, back, moved_by, exchanged_by}

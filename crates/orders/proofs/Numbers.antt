@@ -10,17 +10,18 @@ use lib.Dec.{leb, eqb}
 use lib.IntN.{ℤ}
 use lib.ListN.{length}
 use borrow.Author.Tests.{le-leb, lt-leb, eqb-true, eq-eqb}
+use Rattle.std.specs.Prelude.{Err, Ok}
 use Rattle.bound.proofs.First.{no-first, first-at}
 use Rattle.ec20.proofs.Tests.{differ, either, neither, is_false, or_right}
 use Rattle.ec20.specs.Basics.{pick, first_at}
 use Rattle.ec20.specs.Check.{check_for}
 use Rattle.ec20.specs.Devices.{Device}
-use Rattle.ec20.specs.declared.Found.{Found}
-use Rattle.ec20.specs.declared.Found.TheVariants.{At, Nowhere}
-use Rattle.ec20.specs.declared.Moved.{Moved}
-use Rattle.ec20.specs.declared.Moved.TheVariants.{To, Refused as NotMoved}
-use Rattle.ec20.specs.declared.Verdict.{Verdict}
-use Rattle.ec20.specs.declared.Verdict.TheVariants.{Accepted, Refused as Unfit}
+use Rattle.ec20.specs.Found.{Found}
+use Rattle.ec20.specs.Found.{At, Nowhere}
+use Rattle.ec20.specs.Moved.{Moved}
+use Rattle.ec20.specs.Moved.{To, Refused as NotMoved}
+use Rattle.ec20.specs.Verdict.{Verdict}
+use Rattle.ec20.specs.Verdict.{Accepted, Refused as Unfit}
 use Rattle.jobs.proofs.Laws.{all-accepted, all_apart, all-fail}
 use Rattle.jobs.specs.Job.{refused, task_then, by_tasks, task_at, met_by, meet_then, meetings, right_table, answer_after, job_answer}
 use Rattle.jobs.specs.Tasks.{Task, move_by, tasks_meet}
@@ -67,7 +68,7 @@ module _ (v : Device) (f : List ℕ) where
     where
       go : (x : Moved) → (move_by v f t).answer ≡ x → Lines ts → Lines (t ∷ ts)
       go (To q) e h = one_more t ts (q, e) h
-      go (NotMoved m k) e h = inr (0, m, k, record { there = omega arith; refused = e; ahead = λ j l. absurd (omega arith) })
+      go (Err r) e h = inr (0, r.number, r.at, record { there = omega arith; refused = e; ahead = λ j l. absurd (omega arith) })
 
 -- ---- the meetings
 
@@ -197,8 +198,8 @@ module _ (v : Device) (f : List ℕ) (d : List ℤ) (ts : List Task) where
       subst Holds (only t) t
 
   by-verdict : length ts ≤ 64 → (x : Verdict) → check_for v f ≡ x → Holds (job_answer v f d ts)
-  by-verdict h (Accepted n w) c = by-table n w h c (right_table v d) refl
-  by-verdict h (Unfit m k) c = let t : Holds (Refused m k 0 0) = told_1_8 h c in subst Holds (only t) t
+  by-verdict h (Ok a) c = by-table a.records a.steps h c (right_table v d) refl
+  by-verdict h (Err r) c = let t : Holds (Err r 0 0) = told_1_8 h c in subst Holds (only t) t
 
   pub told : Told v f d ts (job_answer v f d ts)
   told =

@@ -18,8 +18,8 @@ use Rattle.ec20.specs.File.{count_of, records_of}
 use Rattle.ec20.specs.Move.{move}
 use Rattle.ec20.specs.Plant.{Plant}
 use Rattle.ec20.specs.Scan.{Scan}
-use Rattle.ec20.specs.declared.Exchanged.TheVariants.{Done}
-use Rattle.ec20.specs.declared.Moved.TheVariants.{To}
+use Rattle.ec20.specs.Exchanged.{Done}
+use Rattle.ec20.specs.Moved.{To}
 use Rattle.jobs.specs.Tasks.{Task, move_by, pool_of, back}
 use Rattle.moved.proofs.Exchanged.{is-swap, exchange-done}
 use Rattle.moved.proofs.Taken.{placed}

@@ -4,6 +4,7 @@ use mathlib.Core.Bool.{Bool, true}
 use mathlib.Core.List.{List}
 use mathlib.Core.Path.{◌≡◌, refl, sym, ap, ap₂, ◌∙◌}
 use native.Mathlib.Omega.{arith}
+use Rattle.std.specs.Prelude.{Err, Ok}
 use Rattle.bound.proofs.First.{first-at}
 use Rattle.ec20.proofs.NoFault.{block_inside}
 use Rattle.ec20.specs.Basics.{first_at}
@@ -11,14 +12,14 @@ use Rattle.ec20.specs.Check.{check_for}
 use Rattle.ec20.specs.Devices.{Device}
 use Rattle.ec20.specs.File.{records_of}
 use Rattle.ec20.specs.Move.{Block, Pool, Move, move, is_place, place_of, moved_file, judge_move, move_if, move_after, move_for}
-use Rattle.ec20.specs.declared.Found.{Found}
-use Rattle.ec20.specs.declared.Found.TheVariants.{At}
-use Rattle.ec20.specs.declared.Judged.{Judged}
-use Rattle.ec20.specs.declared.Judged.TheVariants.{Fine}
-use Rattle.ec20.specs.declared.Moved.{Moved}
-use Rattle.ec20.specs.declared.Moved.TheVariants.{To}
-use Rattle.ec20.specs.declared.Verdict.{Verdict}
-use Rattle.ec20.specs.declared.Verdict.TheVariants.{Accepted, Refused as Unfit}
+use Rattle.ec20.specs.Found.{Found}
+use Rattle.ec20.specs.Found.{At}
+use Rattle.ec20.specs.Judged.{Judged}
+use Rattle.ec20.specs.Judged.{Fine}
+use Rattle.ec20.specs.Moved.{Moved}
+use Rattle.ec20.specs.Moved.{To}
+use Rattle.ec20.specs.Verdict.{Verdict}
+use Rattle.ec20.specs.Verdict.{Accepted, Refused as Unfit}
 use Rattle.jobs.proofs.Laws.{named}
 use Rattle.jobs.specs.Tasks.{Task, pool_of, move_by}
 use Rattle.moved.proofs.Taken.{Taken, taken, block-fine}
@@ -36,8 +37,8 @@ unfolding move_for
 accepted-by v f b l q e = go (check_for v f) refl e
   where
     go : (x : Verdict) → check_for v f ≡ x → (move_after v x f b l).answer ≡ To q → (n w : ℕ) × (check_for v f ≡ Accepted n w)
-    go (Accepted n w) c e = (n, w, c)
-    go (Unfit m k) c e = let z : ◌≡◌ {A = ℕ} 0 1 = cc in absurd (omega arith)
+    go (Ok a) c e = (a.records, a.steps, c)
+    go (Err r) c e = let z : ◌≡◌ {A = ℕ} 0 1 = cc in absurd (omega arith)
 
 -- the file after a move by a task
 abbrev pub file_by : Task → List ℕ → List ℕ

@@ -1,7 +1,7 @@
 -- Any list of such moves, in any order.
 use Rattle.std.specs.Prelude.{ℕ, List, [], ◌∷◌, map, ◌≡◌, ℤ, length}
-use Rattle.ec20.specs.declared.Exchanged.TheVariants.{Done}
-use Rattle.ec20.specs.declared.Moved.TheVariants.{To}
+use Rattle.ec20.specs.Exchanged.{Done}
+use Rattle.ec20.specs.Moved.{To}
 use Rattle.ec20.specs.Check.{check_for}
 use Rattle.ec20.specs.Devices.{Device}
 use Rattle.ec20.specs.Memory.{with_d}

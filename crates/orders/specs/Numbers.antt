@@ -2,8 +2,8 @@
 use Rattle.std.specs.Prelude.{ℕ, ◌≤◌, ◌<◌, true, false, List, ◌⊎◌, ◌≡◌, ℤ, length}
 use Rattle.ec20.specs.Check.{check_for}
 use Rattle.ec20.specs.Devices.{Device}
-use Rattle.ec20.specs.declared.Moved.TheVariants.{Refused as NotMoved}
-use Rattle.ec20.specs.declared.Verdict.TheVariants.{Accepted, Refused as Unfit}
+use Rattle.ec20.specs.Moved.{Refused as NotMoved}
+use Rattle.ec20.specs.Verdict.{Accepted, Refused as Unfit}
 use Rattle.jobs.specs.Job.{task_at}
 use Rattle.jobs.specs.Tasks.{Task, move_by, tasks_meet}
 use Rattle.jobs.specs.declared.Jobbed.{Jobbed}

@@ -3,8 +3,8 @@
 -- then A, and the two exchanges of the D table give the same table. Moving A to S and then S back to A restores every byte. This is said of named places
 -- only." Of a pool that leaves a choice nothing is claimed: the place that the first move takes may be the lowest for the second.
 use Rattle.std.specs.Prelude.{ℕ, List, map, ◌≡◌, ℤ, length}
-use Rattle.ec20.specs.declared.Exchanged.TheVariants.{Done}
-use Rattle.ec20.specs.declared.Moved.TheVariants.{To}
+use Rattle.ec20.specs.Exchanged.{Done}
+use Rattle.ec20.specs.Moved.{To}
 use Rattle.ec20.specs.Check.{check_for}
 use Rattle.ec20.specs.Devices.{Device}
 use Rattle.ec20.specs.Exchange.{Exchange, exchange_for}

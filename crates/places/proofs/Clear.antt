@@ -14,7 +14,7 @@ use Rattle.ec20.specs.File.{Records}
 use Rattle.ec20.specs.Move.{Block, Pool, block, touches, is_place}
 use Rattle.ec20.specs.Operands.{first_bad}
 use Rattle.ec20.specs.UseMap.{holds, some_record}
-use Rattle.ec20.specs.declared.Judged.TheVariants.{Fine}
+use Rattle.ec20.specs.Judged.{Fine}
 use Rattle.places.specs.Runs.{spare, Clear}
 use Rattle.places.proofs.Extents.{records-real}
 use Rattle.places.proofs.Used.{used-meets, meets-used}

@@ -11,7 +11,7 @@ use Rattle.ec20.specs.Devices.{Device}
 use Rattle.ec20.specs.File.{Records}
 use Rattle.ec20.specs.Operands.{in_d, extent_of, allowed, operands_ok, fault_in, first_bad}
 use Rattle.ec20.specs.Table.{row_of}
-use Rattle.ec20.specs.declared.Judged.TheVariants.{Fine}
+use Rattle.ec20.specs.Judged.{Fine}
 use Rattle.ec20.specs.declared.Rec.{Rec}
 use Rattle.ec20.specs.declared.Row.{Row}
 

@@ -13,9 +13,9 @@ use Rattle.ec20.specs.File.{Records}
 use Rattle.ec20.specs.Move.{Block, Pool, is_place, place_of}
 use Rattle.ec20.specs.Operands.{first_bad}
 use Rattle.ec20.specs.UseMap.{holds, some_record, map_of}
-use Rattle.ec20.specs.declared.Found.{Found}
-use Rattle.ec20.specs.declared.Found.TheVariants.{At, Nowhere}
-use Rattle.ec20.specs.declared.Judged.TheVariants.{Fine}
+use Rattle.ec20.specs.Found.{Found}
+use Rattle.ec20.specs.Found.{At, Nowhere}
+use Rattle.ec20.specs.Judged.{Fine}
 use Rattle.marks.proofs.Maps.{map-marked}
 use Rattle.marks.specs.Marked.{marked}
 use Rattle.places.specs.Runs.{spare, free, Clear, Lowest}

@@ -6,8 +6,8 @@ use native.Mathlib.Decide.{ℕ_discrete, dec_lt}
 use native.Mathlib.Omega.{arith}
 use Rattle.ec20.specs.Basics.{pick}
 use Rattle.ec20.proofs.Tests.{differ}
-use Rattle.ec20.specs.declared.Found.{Found}
-use Rattle.ec20.specs.declared.Found.TheVariants.{At, Nowhere}
+use Rattle.ec20.specs.Found.{Found}
+use Rattle.ec20.specs.Found.{At, Nowhere}
 use Rattle.places.specs.Runs.{Clear, Lowest}
 
 -- Before word i, from a on: `run` words in a row pass, which are fewer than n, and no n words pass that begin before these.

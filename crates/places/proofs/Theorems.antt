@@ -15,9 +15,9 @@ use Rattle.ec20.specs.File.{Records}
 use Rattle.ec20.specs.Move.{Block, Pool, is_place, place_of}
 use Rattle.ec20.specs.Operands.{first_bad}
 use Rattle.ec20.specs.UseMap.{holds, record_has, some_record}
-use Rattle.ec20.specs.declared.Found.{Found}
-use Rattle.ec20.specs.declared.Found.TheVariants.{At, Nowhere}
-use Rattle.ec20.specs.declared.Judged.TheVariants.{Fine}
+use Rattle.ec20.specs.Found.{Found}
+use Rattle.ec20.specs.Found.{At, Nowhere}
+use Rattle.ec20.specs.Judged.{Fine}
 use Rattle.places.specs.Right.{Right}
 use Rattle.places.specs.Runs.{spare, Clear}
 use Rattle.places.proofs.Clear.{never, right-clear, clear-right}

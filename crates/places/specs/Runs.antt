@@ -4,8 +4,8 @@ use Rattle.ec20.specs.Devices.{Device, within}
 use Rattle.ec20.specs.File.{Records}
 use Rattle.ec20.specs.Move.{Block}
 use Rattle.ec20.specs.UseMap.{holds, some_record}
-use Rattle.ec20.specs.declared.Found.{Found}
-use Rattle.ec20.specs.declared.Found.TheVariants.{At, Nowhere}
+use Rattle.ec20.specs.Found.{Found}
+use Rattle.ec20.specs.Found.{At, Nowhere}
 use Rattle.marks.specs.Marked.{marked}
 
 -- word i is free: not in WORK, not in the block, and not in use; by the records

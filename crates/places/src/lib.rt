@@ -8,7 +8,7 @@ ghost use Rattle.ec20.specs.File.{records_from};
 ghost use Rattle.ec20.specs.Move.{block, pool, place_of};
 ghost use Rattle.ec20.specs.Operands.{first_bad};
 ghost use Rattle.ec20.specs.UseMap.{holds, some_operand, some_record, map_of};
-ghost use Rattle.ec20.specs.declared.Judged.TheVariants.{Fine};
+ghost use Rattle.ec20.specs.Judged.{Fine};
 ghost use Rattle.instructions.specs.Cells.{cells};
 ghost use Rattle.marks.specs.Marked.{Widened};
 ghost use Rattle.places.specs.Runs.{free, Lowest};

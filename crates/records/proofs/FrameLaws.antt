@@ -10,7 +10,7 @@ use borrow.Author.Tests.{leb-true, eqb-true, le-leb, lt-leb}
 use Rattle.ec20.proofs.Tests.{both}
 use Rattle.ec20.specs.Basics.{pick}
 use Rattle.ec20.specs.File.{edition_of, count_of, distance_of, first_of, framed, frame_of}
-use Rattle.ec20.specs.declared.Frame.TheVariants.{Whole, Broken}
+use Rattle.ec20.specs.Frame.{Whole, Broken}
 use Rattle.records.specs.Ranges.{Held}
 
 -- what `trailer_fits` tests

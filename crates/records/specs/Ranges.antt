@@ -1,10 +1,10 @@
 -- The ranges of what is read from a file: a byte is below 256, a number of four bytes below 2 ^ 32; and what a whole frame means for the
 -- file's length.
-use Rattle.std.specs.Prelude.{ℕ, ◌+◌, ◌*◌, ◌<◌, ◌≤◌, ◌^◌}
+use Rattle.std.specs.Prelude.{ℕ, ◌+◌, ◌*◌, ◌<◌, ◌≤◌, ◌^◌, Some}
 use Rattle.ec20.specs.declared.Operand.{Operand}
 use Rattle.ec20.specs.declared.Rec.{Rec}
-use Rattle.ec20.specs.declared.Frame.{Frame}
-use Rattle.ec20.specs.declared.Frame.TheVariants.{Whole, Broken}
+use Rattle.ec20.specs.Frame.{Frame}
+use Rattle.ec20.specs.Frame.{Whole, Broken}
 
 pub record Small (o : Operand) : Type 0 where
   pub kind : o.kind < 256
@@ -26,5 +26,5 @@ pub record Held (n first count : ℕ) : Type 0 where
   pub near : first + 20 * count ≤ 44096
 
 abbrev pub Fits : ℕ → Frame → Type 0
-Fits n (Whole first count) = Held n first count
+Fits n (Some w) = Held n w.first w.count
 Fits n Broken = Unit {0}

@@ -6,10 +6,11 @@ use mathlib.Core.Logic.{◌↔◌}
 use mathlib.Core.Path.{◌≡◌, refl, sym, ap, subst, ◌∙◌}
 use native.Mathlib.Omega.{arith}
 use native.Mathlib.Decide.{dec_lt}
-use Rattle.ec20.specs.declared.Judged.{Judged}
-use Rattle.ec20.specs.declared.Judged.TheVariants.{Fine, Fault}
-use Rattle.ec20.specs.declared.Verdict.{Verdict}
-use Rattle.ec20.specs.declared.Verdict.TheVariants.{Accepted, Refused}
+use Rattle.std.specs.Prelude.{Err}
+use Rattle.ec20.specs.Judged.{Judged}
+use Rattle.ec20.specs.Judged.{Fine, Fault}
+use Rattle.ec20.specs.Verdict.{Verdict}
+use Rattle.ec20.specs.Verdict.{Accepted, Refused}
 use Rattle.ec20.specs.Basics.{pick, then}
 use Rattle.ec20.specs.Devices.{Device, ec20}
 use Rattle.ec20.specs.File.{count_of, records_of, framed}
@@ -112,10 +113,10 @@ module _ (v : Device) (f : List ℕ) where
       → Judges 6 (count_of f) (Line6 p) c
       → (c ≡ Fine → Judges 7 (count_of f) (Line7 p) d)
       → Told v f (verdict_of p (then a (then b (then c (then d (too_long (w_of p)))))))
-  by_order n (Fault m k) b c d w x y z = by_number n w.0 w.1
-  by_order n Fine (Fault m k) c d w x y z = rw x.0 (told_5 n w x.1)
-  by_order n Fine Fine (Fault m k) d w x y z = rw y.0 (told_6 n w x y.1)
-  by_order n Fine Fine Fine (Fault m k) w x y z = let r = z refl in rw r.0 (told_7 n w x y r.1)
+  by_order n (Err r) b c d w x y z = by_number n w.0 w.1
+  by_order n Fine (Err r) c d w x y z = rw x.0 (told_5 n w x.1)
+  by_order n Fine Fine (Err r) d w x y z = rw y.0 (told_6 n w x y.1)
+  by_order n Fine Fine Fine (Err r2) w x y z = let r = z refl in rw r.0 (told_7 n w x y r.1)
   by_order n Fine Fine Fine Fine w x y z = by-steps n w x y (z refl)
 
   pub told : Told v f (check_for v f)

@@ -7,8 +7,8 @@ use lib.IntN.{pos, neg_ℤ}
 use lib.ListN.{replicate, length}
 use lib.Signed.{le_z_yes}
 use Rattle.ec20.specs.declared.Operand.{Operand}
-use Rattle.ec20.specs.declared.Verdict.{Verdict}
-use Rattle.ec20.specs.declared.Verdict.TheVariants.{Accepted, Refused}
+use Rattle.ec20.specs.Verdict.{Verdict}
+use Rattle.ec20.specs.Verdict.{Accepted, Refused}
 use Rattle.ec20.specs.Devices.{ec20}
 use Rattle.ec20.specs.Code.{program_of}
 use Rattle.ec20.specs.Roles.{source}

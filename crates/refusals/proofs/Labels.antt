@@ -7,9 +7,9 @@ use native.Mathlib.Decide.{dec_lt}
 use borrow.Author.Tests.{eqb-true, eqb-false, eq-eqb, ne_eqb, not-true}
 use Rattle.ec20.specs.declared.Control.{Control}
 use Rattle.ec20.specs.declared.Control.TheVariants.{Plain, Opens, Closes, Jumps, Marks, Ends}
-use Rattle.ec20.specs.declared.Found.{Found}
-use Rattle.ec20.specs.declared.Found.TheVariants.{At, Nowhere}
-use Rattle.ec20.specs.declared.Walked.TheVariants.{Done}
+use Rattle.ec20.specs.Found.{Found}
+use Rattle.ec20.specs.Found.{At, Nowhere}
+use Rattle.ec20.specs.Walked.{Done}
 use Rattle.ec20.specs.Basics.{first_at, refused_at}
 use Rattle.ec20.specs.Code.{Program}
 use Rattle.ec20.specs.Control.{Controls, control_of, controls_of, marks, first_label}

@@ -5,8 +5,9 @@ use mathlib.Core.Path.{◌≡◌, refl, sym, ap₂, subst, ◌∙◌}
 use native.Mathlib.Omega.{arith}
 use lib.Dec.{eqb}
 use borrow.Author.Tests.{eqb-true, eqb-false}
-use Rattle.ec20.specs.declared.Judged.{Judged}
-use Rattle.ec20.specs.declared.Judged.TheVariants.{Fine, Fault}
+use Rattle.std.specs.Prelude.{Err}
+use Rattle.ec20.specs.Judged.{Judged}
+use Rattle.ec20.specs.Judged.{Fine, Fault}
 use Rattle.ec20.specs.declared.Rec.{Rec}
 use Rattle.ec20.specs.Basics.{pick, judged, first_fault}
 use Rattle.ec20.specs.Devices.{Device}
@@ -108,18 +109,18 @@ module _ (v : Device) (rs : Records) where
   -- no fault: no record breaks 2, 3 or 4; a fault: it is that record's number, at the first record that breaks one of them
   abbrev pub Judges2-4 : Judged → Type 0
   Judges2-4 Fine = Never rs.count Breaks
-  Judges2-4 (Fault n k) = First rs.count Breaks k × Number v (rs.at k) n
+  Judges2-4 (Err r) = First rs.count Breaks r.at × Number v (rs.at r.at) r.number
 
   told : (x : Judged) → first_bad v rs ≡ x → Judges2-4 x
   told Fine e = λ j h l. none-broken v (rs.at j) (number v (rs.at j)) (no-fault (λ k. fault_in v (rs.at k)) 0 rs.count e j (omega arith) (omega arith)) l
-  told (Fault n k) e =
-      let a = the-first (λ k. fault_in v (rs.at k)) 0 rs.count n k e in
-      let b = inside (λ k. fault_in v (rs.at k)) 0 rs.count n k e in
-      let c : Number v (rs.at k) n = subst (Number v (rs.at k)) a.0 (number v (rs.at k)) in
-      let h : k < rs.count = omega (arith, b.0) in (
+  told (Err r) e =
+      let a = the-first (λ r.at. fault_in v (rs.at r.at)) 0 rs.count r.number r.at e in
+      let b = inside (λ r.at. fault_in v (rs.at r.at)) 0 rs.count r.number r.at e in
+      let c : Number v (rs.at r.at) r.number = subst (Number v (rs.at r.at)) a.0 (number v (rs.at r.at)) in
+      let h : r.at < rs.count = omega (arith, b.0) in (
         record {
           inside = h;
-          holds = some-broken v (rs.at k) c b.1;
+          holds = some-broken v (rs.at r.at) c b.1;
           before = λ j g l. none-broken v (rs.at j) (number v (rs.at j)) (a.1 j (omega arith) g) l;
         },
         c,
@@ -131,11 +132,11 @@ module _ (v : Device) (rs : Records) where
   -- so what is judged is decided by the lines
   pub bad-fine : (x : Judged) → Judges2-4 x → Never rs.count Breaks → x ≡ Fine
   bad-fine Fine j h = refl
-  bad-fine (Fault n k) j h = absurd (h k j.0.inside j.0.holds)
+  bad-fine (Err r) j h = absurd (h r.at j.0.inside j.0.holds)
 
   pub bad-fault : (m k : ℕ) → ((n : ℕ) → Number v (rs.at k) n → n ≡ m) → (x : Judged) → Judges2-4 x → First rs.count Breaks k
       → x ≡ Fault m k
   bad-fault m k f Fine j h = absurd (j k h.inside h.holds)
-  bad-fault m k f (Fault n i) j h =
-      let e : i ≡ k = one-first j.0 h in
-      ap₂ Fault (f n (subst (λ (q : ℕ). Number v (rs.at q) n) e j.1)) e
+  bad-fault m k f (Err r) j h =
+      let e : r.at ≡ k = one-first j.0 h in
+      ap₂ Fault (f r.number (subst (λ (q : ℕ). Number v (rs.at q) r.number) e j.1)) e

@@ -4,8 +4,9 @@ use mathlib.Core.List.{List}
 use mathlib.Core.Logic.{◌↔◌}
 use mathlib.Core.Path.{◌≡◌, refl, sym, ap, subst, ◌∙◌}
 use native.Mathlib.Omega.{arith}
-use Rattle.ec20.specs.declared.Verdict.{Verdict}
-use Rattle.ec20.specs.declared.Verdict.TheVariants.{Accepted, Refused}
+use Rattle.std.specs.Prelude.{Err, Ok}
+use Rattle.ec20.specs.Verdict.{Verdict}
+use Rattle.ec20.specs.Verdict.{Accepted, Refused}
 use Rattle.ec20.specs.Devices.{Device}
 use Rattle.ec20.specs.File.{count_of}
 use Rattle.ec20.specs.Code.{program_of}
@@ -20,8 +21,8 @@ use Rattle.refusals.proofs.Steps.{w-is}
 
 -- what each number says
 abbrev Says : Device → List ℕ → Verdict → Type 0
-Says v f (Accepted n w) = (n ≡ count_of f) × (w ≡ w_of (program_of f)) × Not1 f × Not2to4 v f × Not5 f × Not6 f × Not7 f × Not8 f
-Says v f (Refused zero k) = ⊥
+Says v f (Ok a) = (a.records ≡ count_of f) × (a.steps ≡ w_of (program_of f)) × Not1 f × Not2to4 v f × Not5 f × Not6 f × Not7 f × Not8 f
+Says v f (Err r) = ⊥
 Says v f (Refused (suc zero) k) = (k ≡ 0) × Line1 f
 Says v f (Refused (suc (suc zero)) k) = Not1 f × First2to4 v f k × Line2 (record_at f k)
 Says v f (Refused (suc (suc (suc zero))) k) = Not1 f × First2to4 v f k × (Line2 (record_at f k) → ⊥) × Line3 v (record_at f k)

@@ -8,7 +8,7 @@ use native.Mathlib.Omega.{arith}
 use borrow.Author.Tests.{le-leb, lt-leb}
 use Rattle.ec20.specs.declared.Instr.{Instr}
 use Rattle.ec20.specs.declared.Instr.TheVariants.{Nop, Contact, Compare, Join, Branch, Coil, Timer, For, Next, Jump, Label, End, Word}
-use Rattle.ec20.specs.declared.Judged.TheVariants.{Fine, Fault}
+use Rattle.ec20.specs.Judged.{Fine, Fault}
 use Rattle.ec20.specs.Basics.{pick}
 use Rattle.ec20.specs.Code.{Program}
 use Rattle.ec20.specs.Control.{control_of, controls_of}

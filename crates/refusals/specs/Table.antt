@@ -2,8 +2,8 @@
 -- its line holds and nothing ahead of it in this order does."
 use Rattle.std.specs.Prelude.{ℕ, List}
 use Rattle.ec20.specs.declared.Rec.{Rec}
-use Rattle.ec20.specs.declared.Verdict.{Verdict}
-use Rattle.ec20.specs.declared.Verdict.TheVariants.{Accepted, Refused}
+use Rattle.ec20.specs.Verdict.{Verdict}
+use Rattle.ec20.specs.Verdict.{Accepted, Refused}
 use Rattle.ec20.specs.Devices.{Device}
 use Rattle.ec20.specs.File.{count_of, records_of}
 use Rattle.ec20.specs.Code.{program_of}

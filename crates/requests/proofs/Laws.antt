@@ -12,8 +12,8 @@ use lib.Seq.{take-suc, length-take-le}
 use borrow.Author.Tests.{leb-true, eqb-true, eq-eqb, ne_eqb}
 use Rattle.ec20.proofs.NoFault.{passed, then-fine}
 use Rattle.ec20.proofs.Tests.{both, each}
-use Rattle.ec20.specs.declared.Judged.{Judged}
-use Rattle.ec20.specs.declared.Judged.TheVariants.{Fine, Fault}
+use Rattle.ec20.specs.Judged.{Judged}
+use Rattle.ec20.specs.Judged.{Fine, Fault}
 use Rattle.ec20.specs.Basics.{one_if}
 use Rattle.ec20.specs.Bits.{with_bit}
 use Rattle.ec20.specs.File.{byte_at}

@@ -14,7 +14,7 @@ use Rattle.ec20.specs.Buffer.{sent}
 use Rattle.ec20.specs.Check.{check_of}
 use Rattle.ec20.specs.Devices.{ec20}
 use Rattle.ec20.specs.File.{byte_at}
-use Rattle.ec20.specs.declared.Verdict.TheVariants.{Refused as Unfit}
+use Rattle.ec20.specs.Verdict.{Refused as Unfit}
 use Rattle.restored.proofs.Restored.{restored}
 use Rattle.restored.specs.Restored.{Sound}
 use Rattle.torn.specs.Kept.{passes, run_of, end_of, kept_of}

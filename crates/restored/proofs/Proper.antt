@@ -18,7 +18,7 @@ use Rattle.ec20.specs.Operands.{is_known, operands_ok}
 use Rattle.ec20.specs.Table.{row_of}
 use Rattle.ec20.specs.Written.{trailer_of, end_record}
 use Rattle.ec20.specs.declared.Rec.{Rec}
-use Rattle.ec20.specs.declared.Verdict.TheVariants.{Refused as Unfit}
+use Rattle.ec20.specs.Verdict.{Refused as Unfit}
 use Rattle.refusals.proofs.Frame.{frame_right}
 use Rattle.refusals.proofs.Operands.{not-line-3}
 use Rattle.refusals.proofs.Records.{not-line-2}

@@ -4,7 +4,7 @@ use Rattle.std.specs.Prelude.{ℕ, ◌+◌, ◌*◌, ◌≤◌, ◌<◌, true, f
 use Rattle.ec20.specs.Check.{check_for}
 use Rattle.ec20.specs.Devices.{Device}
 use Rattle.ec20.specs.File.{record_from, framed, first_of, count_of}
-use Rattle.ec20.specs.declared.Verdict.TheVariants.{Refused as Unfit}
+use Rattle.ec20.specs.Verdict.{Refused as Unfit}
 use Rattle.torn.specs.Kept.{passes, is_end}
 use Rattle.torn.specs.Salvage.{kept_in, records_in, mended, saved, salvage_for}
 use Rattle.torn.specs.declared.Salvaged.TheVariants.{Done}

@@ -5,7 +5,7 @@ use Rattle.ec20.specs.Check.{check_for}
 use Rattle.ec20.specs.Devices.{Device}
 use Rattle.ec20.specs.File.{byte_at, first_of, record_from}
 use Rattle.ec20.specs.Written.{trailer_of, end_record}
-use Rattle.ec20.specs.declared.Verdict.TheVariants.{Accepted}
+use Rattle.ec20.specs.Verdict.{Accepted}
 use Rattle.torn.specs.Salvage.{mended, saved, salvage_for}
 use Rattle.torn.specs.declared.Salvaged.TheVariants.{Done}
 

@@ -9,7 +9,7 @@ use Prim.Native.Nat.{ℕ, suc, ◌+◌, ◌-◌, ◌<◌, ◌≤◌}
 use Rattle.ec20.specs.Basics.{pick}
 use Rattle.ec20.specs.declared.Instr.TheVariants.{Nop, Contact, Compare, Join, Branch, Coil, Timer, For, Next, Jump, Label, End, Word}
 use Rattle.ec20.specs.declared.Instr.{Instr}
-use Rattle.ec20.specs.declared.Judged.TheVariants.{Fine, Fault}
+use Rattle.ec20.specs.Judged.{Fine, Fault}
 use Rattle.ec20.specs.declared.Rung.{Rung}
 use Rattle.ec20.specs.Rung.{rung, is_load, starts, both_empty, load_ok, action_ok, branch_ok, keeps, after_load, branches_after, after_record, broken_from}
 use Rattle.rungs.specs.Within.{Within}

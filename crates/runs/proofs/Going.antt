@@ -16,7 +16,7 @@ use Rattle.ec20.specs.Memory.{Memory, with_sm}
 use Rattle.ec20.specs.Scan.{Run, ran, run_of, run_scan, answer_of, start_state}
 use Rattle.ec20.specs.Step.{World, Open, open_loops, world, step_of}
 use Rattle.ec20.specs.declared.Machine.{Machine}
-use Rattle.ec20.specs.declared.Scanned.{Scanned}
+use Rattle.ec20.specs.Scanned.{Scanned}
 use Rattle.ec20.specs.declared.Units.{Units}
 use Rattle.runs.specs.Ends.{ends}
 use Rattle.runs.specs.Ran.{ran_from}

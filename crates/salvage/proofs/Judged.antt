@@ -10,8 +10,8 @@ use Rattle.ec20.specs.Devices.{Device}
 use Rattle.ec20.specs.File.{record_from, records_from}
 use Rattle.ec20.specs.Operands.{is_known, operands_ok, target_in_work, fault_of, fault_in, first_bad}
 use Rattle.ec20.specs.Table.{row_of}
-use Rattle.ec20.specs.declared.Judged.{Judged}
-use Rattle.ec20.specs.declared.Judged.TheVariants.{Fine, Fault}
+use Rattle.ec20.specs.Judged.{Judged}
+use Rattle.ec20.specs.Judged.{Fine, Fault}
 use Rattle.torn.specs.Kept.{passes}
 
 -- the judgement of one record: known or not, its operands allowed or not, a target in WORK or not

@@ -5,9 +5,10 @@ use mathlib.Core.List.{List}
 use mathlib.Core.Path.{◌≡◌}
 use lib.Dec.{eqb}
 use lib.IntN.{ℤ}
+use Rattle.std.specs.Prelude.{Err}
 use Rattle.ec20.proofs.Tests.{picked}
-use Rattle.ec20.specs.declared.Judged.{Judged}
-use Rattle.ec20.specs.declared.Judged.TheVariants.{Fine, Fault}
+use Rattle.ec20.specs.Judged.{Judged}
+use Rattle.ec20.specs.Judged.{Fine, Fault}
 use Rattle.modbus.specs.declared.Answered.{Answered}
 use Rattle.modbus.specs.declared.Answered.TheVariants.{Refused, Silent, Reply}
 use Rattle.modbus.specs.Answer.{Answer, judge_answer, silent, replied, heard, answer_if, answer_of}
@@ -41,7 +42,7 @@ unfolding answer_of heard
 ways P own f m d b turned quiet done reply exception = go (judge_answer own m d b)
   where
     go : (j : Judged) → P (answer_if j own f m d b)
-    go (Fault n k) = turned n k
+    go (Err r) = turned r.number r.at
     go Fine =
         picked P (is_heard own f) (heard f m d b) (silent m d b)
         (λ h.

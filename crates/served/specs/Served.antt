@@ -1,6 +1,6 @@
 -- What a request changes. "WORK now reads: changed by no scan and no request."
 use Rattle.std.specs.Prelude.{ℕ, ◌*◌, ◌≤◌, ◌<◌, true, false, List, ◌⊎◌, ◌≡◌, eqb, ℤ, length, take, drop}
-use Rattle.ec20.specs.declared.Judged.TheVariants.{Fine}
+use Rattle.ec20.specs.Judged.{Fine}
 use Rattle.ec20.specs.Basics.{one_if}
 use Rattle.ec20.specs.Bits.{bit_at}
 use Rattle.ec20.specs.File.{byte_at}

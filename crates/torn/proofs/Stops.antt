@@ -9,8 +9,8 @@ use Rattle.ec20.proofs.Tests.{differ}
 use Rattle.ec20.specs.Basics.{first_at}
 use Rattle.ec20.specs.Devices.{Device}
 use Rattle.ec20.specs.File.{Records}
-use Rattle.ec20.specs.declared.Found.{Found}
-use Rattle.ec20.specs.declared.Found.TheVariants.{At, Nowhere}
+use Rattle.ec20.specs.Found.{Found}
+use Rattle.ec20.specs.Found.{At, Nowhere}
 use Rattle.ec20.specs.declared.Rec.{Rec}
 use Rattle.torn.specs.Kept.{passes, ahead, run_of, is_end, end_of, kept, stop_at, kept_of}
 

@@ -7,8 +7,8 @@ use Rattle.ec20.specs.File.{Records, records_as}
 use Rattle.ec20.specs.Mnemonics.{END}
 use Rattle.ec20.specs.Operands.{is_known, operands_ok}
 use Rattle.ec20.specs.Table.{row_of}
-use Rattle.ec20.specs.declared.Found.{Found}
-use Rattle.ec20.specs.declared.Found.TheVariants.{At, Nowhere}
+use Rattle.ec20.specs.Found.{Found}
+use Rattle.ec20.specs.Found.{At, Nowhere}
 use Rattle.ec20.specs.declared.Rec.{Rec}
 use Rattle.torn.specs.declared.Kept.{Kept}
 

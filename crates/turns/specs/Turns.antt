@@ -1,8 +1,8 @@
 -- A scan of the old program and of the moved one, side by side: what came of them, when they are alike, and the inputs that both are given.
-use Rattle.std.specs.Prelude.{ℕ, zero, suc, ◌+◌, ◌*◌, ◌/◌, ◌%◌, ◌≤◌, ◌<◌, List, [], ◌∷◌, ◌++◌, ◌≡◌, get_or}
-use Rattle.ec20.specs.declared.Moved.TheVariants.{To}
-use Rattle.ec20.specs.declared.Scanned.{Scanned}
-use Rattle.ec20.specs.declared.Scanned.TheVariants.{Ended, Watchdog, Refused}
+use Rattle.std.specs.Prelude.{ℕ, zero, suc, ◌+◌, ◌*◌, ◌/◌, ◌%◌, ◌≤◌, ◌<◌, List, [], ◌∷◌, ◌++◌, ◌≡◌, get_or, Err}
+use Rattle.ec20.specs.Moved.{To}
+use Rattle.ec20.specs.Scanned.{Scanned}
+use Rattle.ec20.specs.Scanned.{Ended, Watchdog, Refused}
 use Rattle.ec20.specs.Move.{Block, Pool, move, move_of}
 use Rattle.turns.specs.declared.turn.Answer.{Answer}
 use Rattle.turns.specs.declared.turn.Turn.{Turn}
@@ -17,7 +17,7 @@ pub record MovedTo (f : List ℕ) (b : Block) (q : ℕ) (g : List ℕ) : Type 0 
 unfoldable pub answer_of : Scanned → Answer
 answer_of (Ended r) = record { kind = 1; steps = r.steps; stop = r.stop; error = r.error; at = r.at }
 answer_of (Watchdog r) = record { kind = 2; steps = r.steps; stop = r.stop; error = r.error; at = r.at }
-answer_of (Refused m k) = record { kind = 0; steps = m; stop = k; error = 0; at = 0 }
+answer_of (Err r) = record { kind = 0; steps = r.number; stop = r.at; error = 0; at = 0 }
 
 -- r is the first byte at which two memory files differ, 16,892 where none does
 pub record FirstApart (a b : List ℕ) (r : ℕ) : Type 0 where

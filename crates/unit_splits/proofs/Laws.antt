@@ -7,10 +7,10 @@ use Rattle.checker.proofs.Accepted.{apart, whole-pick, whole-records}
 use Rattle.ec20.specs.Basics.{pick}
 use Rattle.ec20.specs.File.{Records, framed, frame_of, first_of, count_of, records_from, records_of}
 use Rattle.ec20.specs.Move.{split_fault}
-use Rattle.ec20.specs.declared.Frame.{Frame}
-use Rattle.ec20.specs.declared.Frame.TheVariants.{Whole, Broken}
-use Rattle.ec20.specs.declared.Judged.{Judged}
-use Rattle.ec20.specs.declared.Judged.TheVariants.{Fine}
+use Rattle.ec20.specs.Frame.{Frame}
+use Rattle.ec20.specs.Frame.{Whole, Broken}
+use Rattle.ec20.specs.Judged.{Judged}
+use Rattle.ec20.specs.Judged.{Fine}
 use Rattle.units.specs.Report.{block_of}
 use Rattle.units.specs.Splits.{split_in}
 use Rattle.units.specs.declared.Declaration.{Declaration}

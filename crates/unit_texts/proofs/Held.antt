@@ -8,7 +8,7 @@ use native.Mathlib.Omega.{arith}
 use lib.ListN.{length, set, replicate}
 use lib.Seq.{set_out}
 use borrow.Author.Tests.{lt-ltb, le-ltb}
-use Rattle.ec20.specs.declared.Judged.{Judged}
+use Rattle.ec20.specs.Judged.{Judged}
 use Rattle.units.proofs.Walk.{kept-length, Passed as Walked, Over, passed_none as Walked-none, passed-more as Walked-more, passed-misspelt as walked-misspelt, passed-all as walked_all}
 use Rattle.units.specs.Kept.{good_of, line_of}
 use Rattle.units.specs.Listed.{declaration, unit_at, entry_of, units_of}

@@ -4,7 +4,7 @@ use mathlib.Core.Bool.{true, false}
 use mathlib.Core.List.{List, [], ◌∷◌}
 use mathlib.Core.Path.{◌≡◌, refl}
 use lib.ListN.{replicate}
-use Rattle.ec20.specs.declared.Judged.TheVariants.{Fine, Fault}
+use Rattle.ec20.specs.Judged.{Fine, Fault}
 use Rattle.units.specs.Clash.{listed, clash_of}
 use Rattle.units.specs.Report.{pair, clashes_of, judge_clashes, report_of, reported}
 use Rattle.units.specs.Text.{first_line, longer_of}

@@ -6,8 +6,8 @@ use mathlib.Core.Path.{◌≡◌, refl, sym, ap, ◌∙◌}
 use native.Mathlib.Omega.{arith}
 use lib.ListN.{length, get_or, set, take, length-append}
 use borrow.Author.Tests.{lt-leb, le-leb}
-use Rattle.ec20.specs.declared.Judged.{Judged}
-use Rattle.ec20.specs.declared.Judged.TheVariants.{Fine, Fault}
+use Rattle.ec20.specs.Judged.{Judged}
+use Rattle.ec20.specs.Judged.{Fine, Fault}
 use Rattle.units.specs.Kept.{kept_in}
 use Rattle.units.specs.Reading.{Entry, misspelt, spelt, Read, read, next_of, read_by, read_from, lines_of}
 

@@ -1,7 +1,7 @@
 -- What is kept of a text that was read: its entries in a room of so many places, and the judgement as a test and a line.
-use Rattle.std.specs.Prelude.{ℕ, Bool, true, false, List, [], ◌∷◌, replicate}
-use Rattle.ec20.specs.declared.Judged.{Judged}
-use Rattle.ec20.specs.declared.Judged.TheVariants.{Fine, Fault}
+use Rattle.std.specs.Prelude.{ℕ, Bool, true, false, List, [], ◌∷◌, replicate, Err}
+use Rattle.ec20.specs.Judged.{Judged}
+use Rattle.ec20.specs.Judged.{Fine, Fault}
 
 -- the entries of a list in a room: from its first place on, those past its end left out; places past them stay as they were
 unfoldable pub kept_in : {A : Type 0} → List A → List A → List A
@@ -16,9 +16,9 @@ first_of n nothing l = kept_in (replicate n nothing) l
 -- no line is misspelt
 abbrev pub good_of : Judged → Bool
 good_of Fine = true
-good_of (Fault m k) = false
+good_of (Err r) = false
 
 -- the first line that is misspelt, and 0 if none is
 abbrev pub line_of : Judged → ℕ
 line_of Fine = 0
-line_of (Fault m k) = k
+line_of (Err r) = r.at

@@ -1,8 +1,8 @@
 -- A text of lines, read line by line: each line makes an entry, and the first that is misspelt is 15.
 use Rattle.std.specs.Prelude.{ℕ, zero, suc, ◌+◌, List, [], ◌∷◌, leb}
 use Rattle.ec20.specs.Basics.{pick}
-use Rattle.ec20.specs.declared.Judged.{Judged}
-use Rattle.ec20.specs.declared.Judged.TheVariants.{Fine, Fault}
+use Rattle.ec20.specs.Judged.{Judged}
+use Rattle.ec20.specs.Judged.{Fine, Fault}
 
 -- a line as it was read: misspelt; or its entry, and the place after its line feed
 pub data Entry (A : Type 0) : Type 0 where

@@ -1,11 +1,11 @@
 -- "Report every clash once, by lower place, then higher; refuse only a list over 64 or an empty or out-of-range block (10), then a report under
 -- 2,016 pairs (16)."
-use Rattle.std.specs.Prelude.{ℕ, zero, suc, List, [], ◌∷◌, ◌++◌, length, drop, leb}
+use Rattle.std.specs.Prelude.{ℕ, zero, suc, List, [], ◌∷◌, ◌++◌, length, drop, leb, Err}
 use Rattle.ec20.specs.Basics.{pick, then}
 use Rattle.ec20.specs.Devices.{ec20}
 use Rattle.ec20.specs.Move.{Block, block, block_fault}
-use Rattle.ec20.specs.declared.Judged.{Judged}
-use Rattle.ec20.specs.declared.Judged.TheVariants.{Fine, Fault}
+use Rattle.ec20.specs.Judged.{Judged}
+use Rattle.ec20.specs.Judged.{Fine, Fault}
 use Rattle.units.specs.Clash.{Declared, clash_of}
 use Rattle.units.specs.declared.Clashed.{Clashed}
 use Rattle.units.specs.declared.Clashed.TheVariants.{Refused, Clashes}
@@ -70,7 +70,7 @@ filled s b = s ++ drop (length s) b
 -- a refused call changes nothing
 abbrev pub report_if : Judged → List (List ℕ) → List (List ℕ) → Reported
 report_if Fine s b = reported (Clashes (length s)) (filled s b)
-report_if (Fault n k) s b = reported (Refused n k) b
+report_if (Err r) s b = reported (Err r) b
 
 -- the report of a list into b
 unfoldable pub report_of : Declared → List (List ℕ) → Reported

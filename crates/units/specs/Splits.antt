@@ -3,8 +3,8 @@ use Rattle.std.specs.Prelude.{List, ℕ}
 use Rattle.ec20.specs.Basics.{pick}
 use Rattle.ec20.specs.File.{framed, records_of}
 use Rattle.ec20.specs.Move.{split_fault}
-use Rattle.ec20.specs.declared.Judged.{Judged}
-use Rattle.ec20.specs.declared.Judged.TheVariants.{Fine}
+use Rattle.ec20.specs.Judged.{Judged}
+use Rattle.ec20.specs.Judged.{Fine}
 use Rattle.units.specs.Report.{block_of}
 use Rattle.units.specs.declared.Declaration.{Declaration}
 

@@ -7,13 +7,13 @@ use Rattle.ec20.specs.Check.{check_for, check_of}
 use Rattle.ec20.specs.Devices.{Device, ec20}
 use Rattle.ec20.specs.File.{Records, records_of}
 use Rattle.ec20.specs.UseMap.{holds, some_operand, marked_read, marked_written, map_of, map_if, map_for, use_map_of}
-use Rattle.ec20.specs.declared.Mapped.{Mapped}
+use Rattle.ec20.specs.Mapped.{Mapped}
 use Rattle.ec20.specs.declared.Operand.{Operand}
 use Rattle.ec20.specs.declared.Place.{Place}
 use Rattle.ec20.specs.declared.Rec.{Rec}
 use Rattle.ec20.specs.declared.Row.{Row}
-use Rattle.ec20.specs.declared.Verdict.{Verdict}
-use Rattle.ec20.specs.declared.Verdict.TheVariants.{Accepted, Refused}
+use Rattle.ec20.specs.Verdict.{Verdict}
+use Rattle.ec20.specs.Verdict.{Accepted, Refused}
 use Rattle.marks.proofs.Walk.{widen-held, widen_none, widen-three, passed-all}
 use Rattle.marks.specs.Marked.{marking_held, Widened, Passed}
 use Rattle.usemap.specs.Maps.{read_by, written_by, map_in, refused_map}

@@ -4,7 +4,7 @@ use Rattle.ec20.specs.Devices.{ec20}
 use Rattle.ec20.specs.File.{Records}
 use Rattle.ec20.specs.Roles.{is_read, is_written}
 use Rattle.ec20.specs.UseMap.{holds, marked_read, marked_written, map_of, blank_map}
-use Rattle.ec20.specs.declared.Mapped.{Mapped}
+use Rattle.ec20.specs.Mapped.{Mapped}
 use Rattle.ec20.specs.declared.Operand.{Operand}
 use Rattle.ec20.specs.declared.Place.{Place}
 

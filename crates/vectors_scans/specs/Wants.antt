@@ -1,9 +1,9 @@
 -- How many entries of a table a case lends, and an answer as a case has it.
-use Rattle.std.specs.Prelude.{ℕ, ◌+◌, ◌-◌, min, Bool, not, ◌&&◌, ◌||◌, eqb, leb}
+use Rattle.std.specs.Prelude.{ℕ, ◌+◌, ◌-◌, min, Bool, not, ◌&&◌, ◌||◌, eqb, leb, Err}
 use Rattle.ec20.specs.Basics.{pick}
 use Rattle.ec20.specs.declared.Report.{Report}
-use Rattle.ec20.specs.declared.Scanned.{Scanned}
-use Rattle.ec20.specs.declared.Scanned.TheVariants.{Ended, Watchdog, Refused}
+use Rattle.ec20.specs.Scanned.{Scanned}
+use Rattle.ec20.specs.Scanned.{Ended, Watchdog, Refused}
 use Rattle.vectors_scans.specs.declared.judge.Answer.{Answer}
 
 -- "0 one entry short .., 1 empty, 2 one entry more": of a table that has so many
@@ -22,7 +22,7 @@ ran kind r = record { number = 0; told = 0; kind = kind; steps = r.steps; stop =
 abbrev pub told_by : Scanned → Answer
 told_by (Ended r) = ran 1 r
 told_by (Watchdog r) = ran 2 r
-told_by (Refused n k) = record { number = n; told = k; kind = 0; steps = 0; stop = 0; error = 0; at = 0 }
+told_by (Err r) = record { number = r.number; told = r.at; kind = 0; steps = 0; stop = 0; error = 0; at = 0 }
 
 -- whether a scan without a budget answers the same: 200,000 is the budget, or the answer does not hang on it, since the call is refused or the
 -- scan ended within so many steps

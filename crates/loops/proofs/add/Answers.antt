@@ -1,7 +1,7 @@
 use native.Mathlib.Omega.{arith}
 use mathlib.Core.Path.{ap}
 use Rattle.ec20.specs.Walkers.{plus}
-use Rattle.ec20.specs.declared.Walked.TheVariants.{Done}
+use Rattle.ec20.specs.Walked.{Done}
 use Rattle.loops.specs.Capped.{capped}
 use Rattle.loops.specs.Walks.{Small}
 use Rattle.loops.proofs.add.Goals as goal

@@ -2,7 +2,7 @@ use native.Mathlib.Omega.{arith}
 use native.Mathlib.Nat.{mul-le-mul}
 use mathlib.Core.Path.{ap}
 use Prim.Native.Nat.{ℕ, ◌+◌, ◌*◌, ◌≤◌}
-use Rattle.ec20.specs.declared.Walked.TheVariants.{Done}
+use Rattle.ec20.specs.Walked.{Done}
 use Rattle.loops.specs.Capped.{cap, capped}
 use Rattle.loops.specs.Walks.{loop_of, Small}
 use Rattle.loops.proofs.Laws.{passes-capped}

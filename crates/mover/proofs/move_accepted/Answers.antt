@@ -3,7 +3,7 @@ use Rattle.checker.proofs.Accepted.{whole-names, whole-records, not-broken}
 use Rattle.ec20.specs.Devices.{ec20}
 use Rattle.ec20.specs.File.{Records}
 use Rattle.ec20.specs.Operands.{first_bad}
-use Rattle.ec20.specs.declared.Judged.TheVariants.{Fine}
+use Rattle.ec20.specs.Judged.{Fine}
 use Rattle.mover.proofs.Moving.{own-records}
 use Rattle.records.specs.Ranges.{Fits}
 use Rattle.mover.proofs.move_accepted.Goals as goal
