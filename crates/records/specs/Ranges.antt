@@ -4,7 +4,7 @@ use Rattle.std.specs.Prelude.{ℕ, ◌+◌, ◌*◌, ◌<◌, ◌≤◌, ◌^◌
 use Rattle.ec20.specs.declared.Operand.{Operand}
 use Rattle.ec20.specs.declared.Rec.{Rec}
 use Rattle.ec20.specs.Frame.{Frame}
-use Rattle.ec20.specs.Frame.{Whole, Broken}
+use Rattle.ec20.specs.Frame.{Broken}
 
 pub record Small (o : Operand) : Type 0 where
   pub kind : o.kind < 256

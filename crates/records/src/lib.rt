@@ -11,7 +11,7 @@ use ec20::{Frame, Operand, Rec};
 pub fn wide(b: u8) -> usize
     ensures { (result ≡ b) × (result < 256) }
 {
-    b as usize
+    usize::from(b)
 }
 
 // Two bytes and four bytes as a number, the lowest first.
@@ -59,13 +59,6 @@ pub fn record_from(f: &[u8], i: usize) -> Rec
     }
 }
 
-// a - b, or 0 where b is larger.
-fn less(a: usize, b: usize) -> usize
-    ensures { result ≡ a - b }
-{
-    if b < a { a - b } else { 0 }
-}
-
 // What the trailer says fits a file of n bytes.
 fn trailer_fits(n: usize, edition: usize, count: usize, distance: usize) -> bool
     requires { count < 65536 }
@@ -76,28 +69,26 @@ fn trailer_fits(n: usize, edition: usize, count: usize, distance: usize) -> bool
         & (count <= 2000)
         & (distance == 20 * count + 8)
         & (distance <= n)
-        & (less(n, distance) <= 4096)
+        & (n.saturating_sub(distance) <= 4096)
 }
 
 // The frame: where the first record begins, and how many there are.
-pub fn frame(f: &[u8]) -> Frame
+pub fn frame(f: &[u8]) -> Option<Frame>
     ensures value { result ≡ frame_of f.now }
     ensures fits { Fits (length f.now) result }
 {
     let n = f.len();
     if n < 8 {
-        return Frame::Broken;
+        return None;
     }
     let edition = u16_at(f, n - 8);
     let count = u16_at(f, n - 6);
     let distance = u32_at(f, n - 4);
     if trailer_fits(n, edition, count, distance) {
-        return Frame::Whole {
-            first: less(n, distance),
-            count,
-        };
+        let first = n.saturating_sub(distance);
+        return Some(Frame { first, count });
     }
-    Frame::Broken
+    None
 }
 
 // The trailer of a file of so many records.
