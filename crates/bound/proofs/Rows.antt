@@ -13,6 +13,7 @@ use Rattle.ec20.specs.declared.Act.TheVariants.{Go, Enter, Leave, Finish, Refuse
 use Rattle.ec20.specs.Walked.{Walked}
 use Rattle.ec20.specs.Walked.{Done, Bad}
 use Rattle.ec20.specs.Control.{Controls}
+use Rattle.ec20.proofs.Parts.{done-parts}
 use Rattle.ec20.proofs.Tests.{picked}
 use Rattle.ec20.specs.Walkers.{last_act, mid_act, act_of, plus, follow, by_act, sequence_of}
 
@@ -93,7 +94,9 @@ module _ (code : Controls) (count : ℕ) where
 
   plus-done : (s : ℕ) (x : Walked) {m w : ℕ} → plus s x ≡ Done m w → (u : ℕ) × (x ≡ Done m u) × (w ≡ s + u)
   unfolding plus
-  plus-done s (Ok a) {m} {w} e = (a.steps, ap (λ (j : ℕ). Done j a.steps) (let z : a.next ≡ m = cc in z), let z : s + a.steps ≡ w = cc in sym z)
+  plus-done s (Ok a) {m} {w} e =
+      let p = done-parts a.next (s + a.steps) m w e in
+      (a.steps, ap (λ (j : ℕ). Done j a.steps) p.0, sym p.1)
   plus-done s (Bad k) e = let z : ◌≡◌ {A = ℕ} 0 1 = cc in absurd (omega arith)
 
   abbrev pub Walks : (ℕ → ℕ → Walked) → Type 0
@@ -123,9 +126,9 @@ module _ (code : Controls) (count : ℕ) where
   by-act k d m w walk ih (Enter t) o e = after-loop t k d m w walk ih o.0 o.1 o.2 (walk (k + 1) (d + 1)) refl e
   by-act k zero m w walk ih Leave o e = absurd (let z : 0 < 0 = o.1 in omega arith)
   by-act k (suc d) m w walk ih Leave o e =
-      let a : k ≡ m = cc in let b : 0 ≡ w = cc in rw (← a, ← b) (inner empty o.0 o.2)
+      let p = done-parts k 0 m w e in rw (← p.0, ← p.1) (inner empty o.0 o.2)
   by-act k d m w walk ih Finish o e =
-      let a : k + 1 ≡ m = cc in let b : 1 ≡ w = cc in rw (← a, ← b, o.1) (top empty o.0 o.2)
+      let p = done-parts (k + 1) 1 m w e in rw (← p.0, ← p.1, o.1) (top empty o.0 o.2)
   by-act k d m w walk ih Refuse o e = let z : ◌≡◌ {A = ℕ} 0 1 = cc in absurd (omega arith)
 
   pub walked : (n : ℕ) → Walks (sequence_of code count n)

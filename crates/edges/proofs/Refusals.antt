@@ -5,6 +5,8 @@ use mathlib.Core.List.{List, [], ◌∷◌, ◌++◌}
 use Prim.Native.Nat.{ℕ, ◌+◌, ◌^◌}
 use lib.ListN.{replicate, drop}
 use lib.IntN.{pos}
+use Rattle.ec20.specs.Answers.{told_by_map}
+use Rattle.ec20.specs.Devices.{ec20}
 use Rattle.ec20.specs.Verdict.{Accepted, Refused}
 use Rattle.ec20.specs.Scanned.{Ended, Refused as NotScanned}
 use Rattle.ec20.specs.Moved.{To, Refused as NotMoved}
@@ -350,7 +352,7 @@ pub record NineToFourteen : Type 0 where
   -- 8 goes before 9; the mover and the map refuse by 1 to 8 too
   pub eight_before_nine : scan_of (file (most ∷ most ∷ next ∷ next ∷ end ∷ [])) 10001 9 (still blank) ≡ scan (NotScanned 8 0) (still blank)
   pub five_before_ten : move_of (file (out ∷ end ∷ [])) (block 0 0) (pool 1 0) ≡ move (NotMoved 5 0) (file (out ∷ end ∷ []))
-  pub no_map : use_map_of (file (ld ∷ r1 37 (D 7900) ∷ end ∷ [])) ≡ record { number = 4; at = 1; read = replicate 1000 0; written = replicate 1000 0 }
+  pub no_map : told_by_map ec20 (use_map_of (file (ld ∷ r1 37 (D 7900) ∷ end ∷ []))) ≡ record { number = 4; at = 1; read = replicate 1000 0; written = replicate 1000 0 }
   -- numbers as large as the entry takes
   pub far_block : move_of prog (block 4294967295 4294967295) (pool 200 300) ≡ move (NotMoved 10 0) prog
   pub far_pool : move_of prog (block 100 2) (pool 4294967295 4294967295) ≡ move (NotMoved 11 0) prog
