@@ -15,7 +15,7 @@ use Rattle.ec20.proofs.Tests.{both, differ, is_false}
 use Rattle.ec20.specs.Basics.{pick}
 use Rattle.units.specs.Clash.{Declared, same_to, same_name, other_block, overlap, clash_of}
 use Rattle.units.specs.Report.{clashes_of, filled, report_of, reported}
-use Rattle.units.specs.declared.Clashed.TheVariants.{Clashes}
+use Rattle.units.specs.Clashed.{Clashes}
 use Rattle.units.specs.declared.Declaration.{Declaration}
 use Rattle.agreed.specs.Agreed.{Clash, block, Not10, Agree, AllAgree, NoneEmpty, Agreement}
 use Rattle.agreed.proofs.Complete.{complete}

@@ -8,6 +8,7 @@ use native.Mathlib.Omega.{arith}
 use lib.ListN.{length, drop, length-append, length-drop, get_or-append}
 use lib.Seq.{get_or-append-add, get_or-drop}
 use borrow.Author.Tests.{lt-ltb, le-ltb, le-leb, lt-leb}
+use Rattle.std.specs.Prelude.{Err}
 use Rattle.ec20.specs.Basics.{then}
 use Rattle.ec20.specs.Devices.{ec20}
 use Rattle.ec20.specs.Move.{block_fault}
@@ -15,8 +16,8 @@ use Rattle.ec20.specs.Judged.{Judged}
 use Rattle.ec20.specs.Judged.{Fine, Fault}
 use Rattle.units.specs.Clash.{Declared}
 use Rattle.units.specs.Report.{clashes_of, block_of, blocks_fault, list_fault, room_fault, judge_clashes, Reported, reported, filled, report_of}
-use Rattle.units.specs.declared.Clashed.{Clashed}
-use Rattle.units.specs.declared.Clashed.TheVariants.{Refused, Clashes}
+use Rattle.units.specs.Clashed.{Clashed}
+use Rattle.units.specs.Clashed.{Refused, Clashes}
 use Rattle.units.specs.declared.Declaration.{Declaration}
 use Rattle.agreed.specs.Agreed.{entry, Wrong, Line10, over_64, block, Not10, Filled, Answers}
 use Rattle.agreed.proofs.Complete.{complete}
@@ -122,11 +123,11 @@ fills v b h l =
 
 -- answers are told apart by their numbers
 abbrev number : Clashed → ℕ
-number (Refused n k) = n
+number (Err r) = r.number
 number (Clashes c) = 0
 
 abbrev record_of : Clashed → ℕ
-record_of (Refused n k) = k
+record_of (Err r) = r.at
 record_of (Clashes c) = c
 
 module _ (v : Declared) (b : List (List ℕ)) where

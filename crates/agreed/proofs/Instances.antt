@@ -8,7 +8,7 @@ use lib.ListN.{length}
 use Rattle.units.proofs.Computing.{declarations}
 use Rattle.units.specs.Clash.{Declared, listed, clash_of}
 use Rattle.units.specs.Report.{pair, clashes_of, report_of}
-use Rattle.units.specs.declared.Clashed.TheVariants.{Refused}
+use Rattle.units.specs.Clashed.{Refused}
 use Rattle.units.specs.declared.Declaration.{Declaration}
 use Rattle.agreed.specs.Agreed.{over_64, AllAgree, exchanged, swapped, IsLine}
 use Rattle.agreed.proofs.Agreement.{agreement}

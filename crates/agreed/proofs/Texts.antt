@@ -9,16 +9,17 @@ use native.Mathlib.Omega.{arith}
 use lib.Dec.{leb, eqb}
 use lib.ListN.{length, take, get_or-eq_default}
 use borrow.Author.Tests.{lt-ltb, le-ltb, leb-true, eqb-true, eqb-false, not-true}
+use Rattle.std.specs.Prelude.{Some}
 use Rattle.ec20.proofs.Some.{none-at}
 use Rattle.ec20.proofs.Tests.{both}
 use Rattle.ec20.specs.Basics.{pick, some_from}
 use Rattle.units.specs.Spelling.{blank, line_feed, byte_in, is_digit, digit_of, digits_of, wrong, number_at}
 use Rattle.units.specs.Text.{named, line_by_length, line_by_start, line_at, first_line, longer_by, longer_of}
 use Rattle.units.specs.declared.Digits.{Digits}
-use Rattle.units.specs.declared.Line.{Line}
-use Rattle.units.specs.declared.Line.TheVariants as L
-use Rattle.units.specs.declared.Number.{Number}
-use Rattle.units.specs.declared.Number.TheVariants as N
+use Rattle.units.specs.Line.{Line}
+use Rattle.units.specs.Line as L
+use Rattle.units.specs.Number.{Number}
+use Rattle.units.specs.Number as N
 use Rattle.agreed.specs.Agreed.{HandedBack, FirstLine}
 
 -- ---- which part
@@ -33,7 +34,7 @@ first a b s m e t n f x y l = let g : n ≤ m = omega arith in rw (x, y, le-ltb 
 
 nothing : (a b : List ℕ) (x : Line) → longer_by a b x L.Misspelt ≡ []
 nothing a b L.Misspelt = refl
-nothing a b (L.Spelt s m e) = refl
+nothing a b (Some w) = refl
 
 misspelt : (a b : List ℕ) → (first_line a ≡ L.Misspelt) ⊎ (first_line b ≡ L.Misspelt) → longer_of a b ≡ []
 unfolding longer_of
@@ -89,21 +90,21 @@ number s from most a e h =
 -- the length was read as this: a number up to the line feed, which is behind it
 by_length : (s : List ℕ) (x : Number) (a m n e : ℕ) → line_by_length s a x ≡ L.Spelt m n e → (k : ℕ) × (x ≡ N.Spelt n k) × (e ≡ k + 1) × (byte_in s k ≡ line_feed)
 by_length s N.Misspelt a m n e h = let z : ◌≡◌ {A = ℕ} 0 1 = cc in absurd (omega arith)
-by_length s (N.Spelt c k) a m n e h = go (eqb (byte_in s k) line_feed) refl h
+by_length s (Some w2) a m n e h = go (eqb (byte_in s w2.next) line_feed) refl h
   where
-    go : (t : Bool) → eqb (byte_in s k) line_feed ≡ t → pick t (L.Spelt a c (k + 1)) L.Misspelt ≡ L.Spelt m n e → (j : ℕ) × (N.Spelt c k ≡ N.Spelt n j) × (e ≡ j + 1) × (byte_in s j ≡ line_feed)
-    go true q g = let z : c ≡ n = cc in let w : k + 1 ≡ e = cc in (k, ap (λ (y : ℕ). N.Spelt y k) z, sym w, eqb-true _ _ q)
+    go : (t : Bool) → eqb (byte_in s w2.next) line_feed ≡ t → pick t (L.Spelt a w2.value (w2.next + 1)) L.Misspelt ≡ L.Spelt m n e → (j : ℕ) × (N.Spelt w2.value w2.next ≡ N.Spelt n j) × (e ≡ j + 1) × (byte_in s j ≡ line_feed)
+    go true q g = let z : w2.value ≡ n = cc in let w : w2.next + 1 ≡ e = cc in (w2.next, ap (λ (y : ℕ). N.Spelt y w2.next) z, sym w, eqb-true _ _ q)
     go false q g = let z : ◌≡◌ {A = ℕ} 0 1 = cc in absurd (omega arith)
 
 -- the start was read as this: a number up to a blank
 by-start : (s : List ℕ) (most : ℕ) (x : Number) (m n e : ℕ) → line_by_start s most x ≡ L.Spelt m n e
     → (a : ℕ) × (k : ℕ) × (x ≡ N.Spelt a k) × (eqb (byte_in s k) blank ≡ true) × (line_by_length s a (number_at s (k + 1) most) ≡ L.Spelt m n e)
 by-start s most N.Misspelt m n e h = let z : ◌≡◌ {A = ℕ} 0 1 = cc in absurd (omega arith)
-by-start s most (N.Spelt a k) m n e h = go (eqb (byte_in s k) blank) refl h
+by-start s most (Some w) m n e h = go (eqb (byte_in s w.next) blank) refl h
   where
-    go : (t : Bool) → eqb (byte_in s k) blank ≡ t → pick t (line_by_length s a (number_at s (k + 1) most)) L.Misspelt ≡ L.Spelt m n e
-        → (c : ℕ) × (j : ℕ) × (N.Spelt a k ≡ N.Spelt c j) × (eqb (byte_in s j) blank ≡ true) × (line_by_length s c (number_at s (j + 1) most) ≡ L.Spelt m n e)
-    go true q g = (a, k, refl, q, g)
+    go : (t : Bool) → eqb (byte_in s w.next) blank ≡ t → pick t (line_by_length s w.value (number_at s (w.next + 1) most)) L.Misspelt ≡ L.Spelt m n e
+        → (c : ℕ) × (j : ℕ) × (N.Spelt w.value w.next ≡ N.Spelt c j) × (eqb (byte_in s j) blank ≡ true) × (line_by_length s c (number_at s (j + 1) most) ≡ L.Spelt m n e)
+    go true q g = (w.value, w.next, refl, q, g)
     go false q g = let z : ◌≡◌ {A = ℕ} 0 1 = cc in absurd (omega arith)
 
 by_name : (t : Bool) (x : Line) (m n e : ℕ) → pick t x L.Misspelt ≡ L.Spelt m n e → (t ≡ true) × (x ≡ L.Spelt m n e)

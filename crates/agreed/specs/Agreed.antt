@@ -5,9 +5,9 @@ use Rattle.units.specs.Clash.{Declared, clash_of}
 use Rattle.units.specs.Report.{pair, clashes_of, judge_clashes, report_of, reported}
 use Rattle.units.specs.Spelling.{line_feed, byte_in}
 use Rattle.units.specs.Text.{first_line, longer_of}
-use Rattle.units.specs.declared.Clashed.TheVariants.{Refused, Clashes}
+use Rattle.units.specs.Clashed.{Refused, Clashes}
 use Rattle.units.specs.declared.Declaration.{Declaration}
-use Rattle.units.specs.declared.Line.TheVariants.{Misspelt, Spelt}
+use Rattle.units.specs.Line.{Misspelt, Spelt}
 
 -- ---- 1. "Report every clash once, by lower place, then higher"
 

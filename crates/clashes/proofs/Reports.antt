@@ -16,8 +16,8 @@ use Rattle.ec20.specs.Judged.{Judged}
 use Rattle.ec20.specs.Judged.{Fine, Fault}
 use Rattle.units.specs.Clash.{Declared, clash_of}
 use Rattle.units.specs.Report.{pair, clashes_with, clashes_from, clashes_of, block_of, blocks_fault, list_fault, room_fault, judge_clashes, reported, filled, report_if, report_of}
-use Rattle.units.specs.declared.Clashed.{Clashed}
-use Rattle.units.specs.declared.Clashed.TheVariants.{Refused, Clashes}
+use Rattle.units.specs.Clashed.{Clashed}
+use Rattle.units.specs.Clashed.{Refused, Clashes}
 use Rattle.clashes.specs.Rows.{is_fine, right_block, grown_by, row_of, with_row, rows_of, noted, pairs_in, pairs_from, told_of}
 use Rattle.clashes.specs.declared.Rows.{Rows}
 use Rattle.clashes.proofs.RowLaws.{row_at}

@@ -15,8 +15,8 @@ use Rattle.ec20.specs.Judged.{Judged}
 use Rattle.ec20.specs.Judged.{Fine, Fault}
 use Rattle.ec20.specs.Basics.{then}
 use Rattle.ec20.specs.Devices.{ec20}
-use Rattle.modbus.specs.declared.Answered.{Answered}
-use Rattle.modbus.specs.declared.Answered.TheVariants.{Refused, Silent, Reply}
+use Rattle.modbus.specs.Answered.{Answered}
+use Rattle.modbus.specs.Answered.{Refused, Silent, Reply}
 use Rattle.modbus.specs.Answer.{tables_fault, call_fault, judge_answer, answer_if, answer_of}
 use Rattle.refusals.proofs.Tells.{Tells, tells, tells-fine, tells-fault}
 use Rattle.served.proofs.Theorem.{served}
@@ -71,7 +71,7 @@ module _ (own : ℕ) (f m : List ℕ) (d : List ℤ) (b : List ℕ) where
     pub no_other : (n ≡ 9) ⊎ (n ≡ 16)
 
   abbrev Said : Answered → Type 0
-  Said (Refused n k) = Says n k
+  Said (Err r) = Says r.number r.at
   Said Silent = Unit {0}
   Said (Reply l) = Unit {0}
 

@@ -18,7 +18,7 @@ use Rattle.ec20.specs.Move.{Block, Pool, Move, moved_file, move_for}
 use Rattle.ec20.specs.Plant.{Plant}
 use Rattle.ec20.specs.Scan.{Scan, scan_for}
 use Rattle.ec20.specs.UseMap.{map_for}
-use Rattle.modbus.specs.declared.Answered.TheVariants.{Refused as NotAnswered}
+use Rattle.modbus.specs.Answered.{Refused as NotAnswered}
 use Rattle.modbus.specs.Answer.{answer_of}
 use Rattle.agreed.specs.Agreed.{Answers}
 use Rattle.refusals.specs.Frame.{Line1}

@@ -11,11 +11,11 @@ use Rattle.ec20.specs.Mapped.{Mapped}
 use Rattle.ec20.specs.Moved.{Moved}
 use Rattle.ec20.specs.Verdict.{Verdict}
 use Rattle.jobs.specs.Job.{Job, job, ToldJob, told_by_job}
-use Rattle.jobs.specs.declared.Jobbed.{Jobbed}
+use Rattle.jobs.specs.Jobbed.{Jobbed}
 use Rattle.modbus.specs.Answer.{Answer, told_by_answer}
-use Rattle.modbus.specs.declared.Answered.{Answered}
+use Rattle.modbus.specs.Answered.{Answered}
 use Rattle.torn.specs.Salvage.{Salvage, saved, ToldSalvage, told_by_salvage}
-use Rattle.torn.specs.declared.Salvaged.{Salvaged}
+use Rattle.torn.specs.Salvaged.{Salvaged}
 
 -- two names of one verdict tell the same four numbers
 pub tells : {r u v : Verdict} → r ≡ v → r ≡ u

@@ -23,8 +23,8 @@ use Rattle.job_moves.specs.Ready.{Fit, Ready, Movable, judged_by}
 use Rattle.jobs.proofs.Laws.{tasks-length}
 use Rattle.jobs.specs.Job.{refused, right_table, answer_after, job_answer, Job, job, job_if, job_for, job_of}
 use Rattle.jobs.specs.Tasks.{Task, moved_by, exchanged_by, tasks_of}
-use Rattle.jobs.specs.declared.Jobbed.{Jobbed}
-use Rattle.jobs.specs.declared.Jobbed.TheVariants.{Refused, Done}
+use Rattle.jobs.specs.Jobbed.{Jobbed}
+use Rattle.jobs.specs.Jobbed.{Refused, Done}
 use Rattle.moved.proofs.Bytes.{frame-whole}
 use Rattle.records.specs.Ranges.{Fits}
 

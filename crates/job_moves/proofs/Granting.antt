@@ -13,8 +13,8 @@ use Rattle.job_moves.specs.Ready.{Granted, EachGranted}
 use Rattle.jobs.proofs.Laws.{tasks-length, task-at, each-named}
 use Rattle.jobs.specs.Job.{by_tasks, task_at}
 use Rattle.jobs.specs.Tasks.{Task, pool_of, move_by, tasks_of}
-use Rattle.jobs.specs.declared.Jobbed.{Jobbed}
-use Rattle.jobs.specs.declared.Jobbed.TheVariants.{Done}
+use Rattle.jobs.specs.Jobbed.{Jobbed}
+use Rattle.jobs.specs.Jobbed.{Done}
 use Rattle.moved.proofs.Exchanged.{exchange-done}
 use Rattle.moved.proofs.Taken.{taken, placed}
 

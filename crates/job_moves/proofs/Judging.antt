@@ -18,8 +18,8 @@ use Rattle.ec20.specs.Verdict.{Verdict}
 use Rattle.job_moves.specs.Ready.{Ready}
 use Rattle.jobs.specs.Job.{task_then, by_tasks}
 use Rattle.jobs.specs.Tasks.{move_by, task_of, tasks_of}
-use Rattle.jobs.specs.declared.Jobbed.{Jobbed}
-use Rattle.jobs.specs.declared.Jobbed.TheVariants.{Refused}
+use Rattle.jobs.specs.Jobbed.{Jobbed}
+use Rattle.jobs.specs.Jobbed.{Refused}
 
 module _ (f : List ℕ) (b : Block) where
   -- 14, or the place

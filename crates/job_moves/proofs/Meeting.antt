@@ -13,8 +13,8 @@ use Rattle.job_moves.specs.Ready.{meetings_in}
 use Rattle.jobs.proofs.Laws.{tasks-length, task-at}
 use Rattle.jobs.specs.Job.{task_at, met_by, meet_then, meetings}
 use Rattle.jobs.specs.Tasks.{tasks_meet, task_of, tasks_of}
-use Rattle.jobs.specs.declared.Jobbed.{Jobbed}
-use Rattle.jobs.specs.declared.Jobbed.TheVariants.{Refused, Done}
+use Rattle.jobs.specs.Jobbed.{Jobbed}
+use Rattle.jobs.specs.Jobbed.{Refused, Done}
 use Rattle.labels.proofs.Laws.{passes, fails, none}
 
 module _ (ls : List (List ℕ)) where

@@ -8,7 +8,7 @@ use Rattle.ec20.specs.Exchanged.{Done as Exchanges}
 use Rattle.ec20.specs.Verdict.{Accepted}
 use Rattle.jobs.specs.Job.{by_tasks, meetings}
 use Rattle.jobs.specs.Tasks.{Task, task_of, tasks_of}
-use Rattle.jobs.specs.declared.Jobbed.{Jobbed}
+use Rattle.jobs.specs.Jobbed.{Jobbed}
 use Rattle.mover.specs.Ready.{Checked}
 use Rattle.records.specs.Ranges.{Held}
 use Rattle.rewrite.specs.Numbers.{Below}

@@ -6,8 +6,8 @@ use mathlib.Core.Path.{◌≡◌, sym, ap, ◌∙◌}
 use lib.ListN.{length, set}
 use Rattle.ec20.specs.Judged.{Judged}
 use Rattle.jobs.specs.Text.{job_line_at, three_of, job_in}
-use Rattle.jobs.specs.declared.JobLine.{JobLine}
-use Rattle.jobs.specs.declared.JobLine.TheVariants as J
+use Rattle.jobs.specs.JobLine.{JobLine}
+use Rattle.jobs.specs.JobLine as J
 use Rattle.units.proofs.Walk.{kept-length, kept-none, Passed as Walked, Over, passed_none as Walked-none, passed-more as Walked-more, passed-misspelt as walked-misspelt, passed-all as walked_all}
 use Rattle.units.specs.Kept.{kept_in, good_of, line_of}
 use Rattle.units.specs.Reading.{Entry, Read}

@@ -7,16 +7,17 @@ use native.Mathlib.Omega.{arith}
 use lib.Dec.{eqb}
 use lib.ListN.{length}
 use borrow.Author.Tests.{eq-eqb, ne_eqb, eqb-true}
+use Rattle.std.specs.Prelude.{Some}
 use Rattle.ec20.proofs.Tests.{picked}
 use Rattle.ec20.specs.Basics.{pick}
 use Rattle.jobs.specs.Text.{most, line_by_place, line_by_length, line_by_start, job_line_at}
-use Rattle.jobs.specs.declared.JobLine.{JobLine}
-use Rattle.jobs.specs.declared.JobLine.TheVariants as J
+use Rattle.jobs.specs.JobLine.{JobLine}
+use Rattle.jobs.specs.JobLine as J
 use Rattle.spelling.proofs.Laws.{stands, number_in}
 use Rattle.spelling.specs.Bounds.{NumberIn}
 use Rattle.units.specs.Spelling.{byte_in, number_at}
-use Rattle.units.specs.declared.Number.{Number}
-use Rattle.units.specs.declared.Number.TheVariants as N
+use Rattle.units.specs.Number.{Number}
+use Rattle.units.specs.Number as N
 use Rattle.job_texts.specs.Held.{part_by, part_at, PartIn, JobLineIn}
 
 -- ---- a part
@@ -39,9 +40,9 @@ module _ (s : List ℕ) (from b : ℕ) (x : Number) (ex : x ≡ number_at s from
 -- what is known of a part
 by-part-in : (s : List ℕ) (from b : ℕ) (x : Number) → 0 < b → NumberIn from most x → PartIn (length s) from (part_by s b x)
 by-part-in s from b N.Misspelt l h = tt
-by-part-in s from b (N.Spelt v e) l h =
-    picked (PartIn (length s) from) (eqb (byte_in s e) b) (N.Spelt v (e + 1)) N.Misspelt
-    (λ g. let i : e < length s = stands s e b (sym (eqb-true _ _ g)) l in (h.0, omega (arith, h.1), omega arith))
+by-part-in s from b (Some w) l h =
+    picked (PartIn (length s) from) (eqb (byte_in s w.next) b) (N.Spelt w.value (w.next + 1)) N.Misspelt
+    (λ g. let i : w.next < length s = stands s w.next b (sym (eqb-true _ _ g)) l in (h.0, omega (arith, h.1), omega arith))
     (λ g. tt)
 
 pub part_in : (s : List ℕ) (from b : ℕ) → 0 < b → PartIn (length s) from (part_at s from b)
@@ -53,15 +54,15 @@ part_in s from b l = by-part-in s from b (number_at s from most) l (number_in s 
 -- the line by its parts: the last part was read as this, and so for those ahead of it
 abbrev by_place : ℕ → ℕ → Number → JobLine
 by_place a n N.Misspelt = J.Misspelt
-by_place a n (N.Spelt q g) = J.Spelt a n q g
+by_place a n (Some w) = J.Spelt a n w.value w.next
 
 abbrev by_length : List ℕ → ℕ → Number → JobLine
 by_length s a N.Misspelt = J.Misspelt
-by_length s a (N.Spelt n f) = by_place a n (part_at s f 10)
+by_length s a (Some w) = by_place a w.value (part_at s w.next 10)
 
 abbrev by_start : List ℕ → Number → JobLine
 by_start s N.Misspelt = J.Misspelt
-by_start s (N.Spelt a e) = by_length s a (part_at s e 32)
+by_start s (Some w) = by_length s w.value (part_at s w.next 32)
 
 through : {A B : Type 0} (f : A → B) (t : Bool) (x y : A) → pick t (f x) (f y) ≡ f (pick t x y)
 through f true x y = refl
@@ -69,21 +70,21 @@ through f false x y = refl
 
 by_place_lem : (s : List ℕ) (a n : ℕ) (x : Number) → line_by_place s a n x ≡ by_place a n (part_by s 10 x)
 by_place_lem s a n N.Misspelt = refl
-by_place_lem s a n (N.Spelt q e) = through (by_place a n) (eqb (byte_in s e) 10) (N.Spelt q (e + 1)) N.Misspelt
+by_place_lem s a n (Some w) = through (by_place a n) (eqb (byte_in s w.next) 10) (N.Spelt w.value (w.next + 1)) N.Misspelt
 
 by_length_lem : (s : List ℕ) (a : ℕ) (x : Number) → line_by_length s a x ≡ by_length s a (part_by s 32 x)
 unfolding part_at
 by_length_lem s a N.Misspelt = refl
-by_length_lem s a (N.Spelt n e) =
-    ap (λ (y : JobLine). pick (eqb (byte_in s e) 32) y J.Misspelt) (by_place_lem s a n (number_at s (e + 1) most))
-    ∙ through (by_length s a) (eqb (byte_in s e) 32) (N.Spelt n (e + 1)) N.Misspelt
+by_length_lem s a (Some w) =
+    ap (λ (y : JobLine). pick (eqb (byte_in s w.next) 32) y J.Misspelt) (by_place_lem s a w.value (number_at s (w.next + 1) most))
+    ∙ through (by_length s a) (eqb (byte_in s w.next) 32) (N.Spelt w.value (w.next + 1)) N.Misspelt
 
 by-start : (s : List ℕ) (x : Number) → line_by_start s x ≡ by_start s (part_by s 32 x)
 unfolding part_at
 by-start s N.Misspelt = refl
-by-start s (N.Spelt a e) =
-    ap (λ (y : JobLine). pick (eqb (byte_in s e) 32) y J.Misspelt) (by_length_lem s a (number_at s (e + 1) most))
-    ∙ through (by_start s) (eqb (byte_in s e) 32) (N.Spelt a (e + 1)) N.Misspelt
+by-start s (Some w) =
+    ap (λ (y : JobLine). pick (eqb (byte_in s w.next) 32) y J.Misspelt) (by_length_lem s w.value (number_at s (w.next + 1) most))
+    ∙ through (by_start s) (eqb (byte_in s w.next) 32) (N.Spelt w.value (w.next + 1)) N.Misspelt
 
 by_parts : (s : List ℕ) (from : ℕ) → job_line_at s from ≡ by_start s (part_at s from 32)
 unfolding job_line_at part_at

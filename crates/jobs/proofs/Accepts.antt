@@ -20,8 +20,8 @@ use Rattle.ec20.specs.Verdict.{Verdict}
 use Rattle.ec20.specs.Verdict.{Accepted, Refused as Unfit}
 use Rattle.jobs.specs.Job.{refused, by_tasks, task_at, met_by, meet_then, meetings, right_table, answer_after, job_answer}
 use Rattle.jobs.specs.Tasks.{Task, move_by, tasks_meet}
-use Rattle.jobs.specs.declared.Jobbed.{Jobbed}
-use Rattle.jobs.specs.declared.Jobbed.TheVariants.{Done}
+use Rattle.jobs.specs.Jobbed.{Jobbed}
+use Rattle.jobs.specs.Jobbed.{Done}
 use Rattle.jobs.proofs.Laws.{each-named, after-tasks, all-accepted, none-meets, all_apart}
 
 pub record Accepts (v : Device) (f : List ℕ) (d : List ℤ) (ts : List Task) : Type 0 where

@@ -11,7 +11,7 @@ use Rattle.ec20.specs.Judged.{Fine, Fault}
 use Rattle.jobs.specs.Job.{refused, job_answer, job, job_of}
 use Rattle.jobs.specs.Tasks.{Task, task}
 use Rattle.jobs.specs.Text.{job_in}
-use Rattle.jobs.specs.declared.Jobbed.TheVariants.{Refused, Done}
+use Rattle.jobs.specs.Jobbed.{Refused, Done}
 use Rattle.units.specs.Reading.{read}
 use Rattle.jobs.proofs.Computing.{jobbing}
 

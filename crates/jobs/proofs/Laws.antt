@@ -25,8 +25,8 @@ use Rattle.ec20.specs.Verdict.{Verdict}
 use Rattle.ec20.specs.Verdict.{Accepted, Refused as Unfit}
 use Rattle.jobs.specs.Job.{task_then, by_tasks, task_at, met_by, meet_then, meetings}
 use Rattle.jobs.specs.Tasks.{Task, pool_of, move_by, task_of, tasks_of, tasks_meet}
-use Rattle.jobs.specs.declared.Jobbed.{Jobbed}
-use Rattle.jobs.specs.declared.Jobbed.TheVariants.{Done}
+use Rattle.jobs.specs.Jobbed.{Jobbed}
+use Rattle.jobs.specs.Jobbed.{Done}
 
 -- ---- lines as tasks
 

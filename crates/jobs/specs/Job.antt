@@ -12,8 +12,8 @@ use Rattle.ec20.specs.Moved.{To, Refused as NotMoved}
 use Rattle.ec20.specs.Verdict.{Verdict}
 use Rattle.ec20.specs.Verdict.{Accepted, Refused as Unfit}
 use Rattle.jobs.specs.Tasks.{Task, task, move_by, tasks_meet, moved_by, exchanged_by}
-use Rattle.jobs.specs.declared.Jobbed.{Jobbed}
-use Rattle.jobs.specs.declared.Jobbed.TheVariants.{Refused, Done}
+use Rattle.jobs.specs.Jobbed.{Jobbed}
+use Rattle.jobs.specs.Jobbed.{Refused, Done}
 
 -- a refusal that is told at no line
 abbrev pub refused : ℕ → ℕ → Jobbed
@@ -76,7 +76,7 @@ abbrev pub job : Jobbed → List ℕ → List ℤ → Job
 job a f d = record { answer = a; file = f; words = d }
 
 abbrev pub job_if : Jobbed → List ℕ → List ℤ → List Task → Job
-job_if (Refused m k i j) f d ts = job (Refused m k i j) f d
+job_if (Err r) f d ts = job (Err r) f d
 job_if (Done n) f d ts = job (Done n) (moved_by ts f) (exchanged_by ts d)
 
 unfoldable pub job_for : Device → List ℕ → List ℤ → List Task → Job
@@ -94,5 +94,5 @@ pub record ToldJob : Type 0 where
   pub other : ℕ
 
 unfoldable pub told_by_job : Jobbed → ToldJob
-told_by_job (Refused m k i j) = record { number = m; at = k; line = i; other = j }
+told_by_job (Err r) = record { number = r.number; at = r.at; line = r.line; other = r.other }
 told_by_job (Done n) = record { number = 0; at = 0; line = 0; other = 0 }

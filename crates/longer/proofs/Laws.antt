@@ -6,8 +6,8 @@ use lib.ListN.{take}
 use borrow.Author.Tests.{lt-ltb, le-ltb, ne_eqb}
 use Rattle.units.proofs.Part.{part_of, told_part}
 use Rattle.units.specs.Text.{first_line, longer_of, told_longer, told_by_longer}
-use Rattle.units.specs.declared.Line.{Line}
-use Rattle.units.specs.declared.Line.TheVariants as L
+use Rattle.units.specs.Line.{Line}
+use Rattle.units.specs.Line as L
 
 -- the two numbers that are told
 abbrev pub Tells : List ℕ → List ℕ → ℕ → ℕ → Type 0

@@ -14,8 +14,8 @@ use Rattle.image.specs.Image.{plant_of, image_of, Sizes}
 use Rattle.memories.proofs.After.{tables_after, bytes_after, no_byte}
 use Rattle.memories.specs.Images.{AnswerIn, answer_in}
 use Rattle.modbus.specs.Answer.{Answer, answer_of}
-use Rattle.modbus.specs.declared.Answered.{Answered}
-use Rattle.modbus.specs.declared.Answered.TheVariants.{Refused}
+use Rattle.modbus.specs.Answered.{Answered}
+use Rattle.modbus.specs.Answered.{Refused}
 use Rattle.served.proofs.Theorem.{served}
 
 abbrev told : Answered → List ℕ → List ℤ → List ℕ → Answer

@@ -9,8 +9,8 @@ use Rattle.ec20.specs.Plant.{Plant, plant}
 use Rattle.ec20.specs.Exchanged.{Exchanged}
 use Rattle.ec20.specs.Exchanged.{Refused as NotExchanged}
 use Rattle.modbus.specs.Answer.{answer_of}
-use Rattle.modbus.specs.declared.Answered.{Answered}
-use Rattle.modbus.specs.declared.Answered.TheVariants.{Refused}
+use Rattle.modbus.specs.Answered.{Answered}
+use Rattle.modbus.specs.Answered.{Refused}
 
 -- the answer, and memory and leftovers after the exchange
 pub record ExchangeIn : Type 0 where

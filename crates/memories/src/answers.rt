@@ -4,7 +4,7 @@ ghost use Rattle.ec20.specs.Basics.{pick};
 ghost use Rattle.image.specs.Image.{plant_of, image_of};
 ghost use Rattle.memories.specs.Images.{answer_in};
 ghost use Rattle.modbus.specs.Answer.{answer_of};
-ghost use Rattle.modbus.specs.declared.Answered.TheVariants.{Refused};
+ghost use Rattle.modbus.specs.Answered.{Refused};
 
 use crate::tables;
 use modbus::Answered;

@@ -5,6 +5,7 @@ use mathlib.Core.List.{List}
 use mathlib.Core.Path.{◌≡◌, sym, ap, subst, ◌∙◌}
 use lib.IntN.{ℤ}
 use lib.ListN.{length}
+use Rattle.std.specs.Prelude.{Err}
 use Rattle.ec20.specs.Devices.{ec20}
 use Rattle.ec20.specs.Memory.{memory}
 use Rattle.ec20.specs.Plant.{Plant, plant}
@@ -12,15 +13,15 @@ use Rattle.image.proofs.Inverse.{plant-sizes}
 use Rattle.image.specs.Image.{plant_of, image_of, Sizes}
 use Rattle.jobs.specs.Job.{Job, job, job_if, job_answer, job_for, job_of}
 use Rattle.jobs.specs.Tasks.{Task}
-use Rattle.jobs.specs.declared.Jobbed.{Jobbed}
-use Rattle.jobs.specs.declared.Jobbed.TheVariants.{Refused, Done}
+use Rattle.jobs.specs.Jobbed.{Jobbed}
+use Rattle.jobs.specs.Jobbed.{Refused, Done}
 use Rattle.memories.proofs.After.{tables_after, bytes_after, no_byte}
 use Rattle.memory_jobs.specs.Images.{JobOver, over_plant, job_over, no_table}
 
 -- a refused job changes neither file nor table
 by_answer : (a : Jobbed) (f : List ℕ) (d : List ℤ) (ts : List Task) (m k i j : ℕ) → (job_if a f d ts).answer ≡ Refused m k i j
     → job_if a f d ts ≡ job (Refused m k i j) f d
-by_answer (Refused n l u v) f d ts m k i j h = ap (λ (a : Jobbed). job a f d) h
+by_answer (Err r) f d ts m k i j h = ap (λ (a : Jobbed). job a f d) h
 by_answer (Done n) f d ts m k i j h = cc
 
 refused-job : (f : List ℕ) (d : List ℤ) (ts : List Task) (m k i j : ℕ) → (job_of f d ts).answer ≡ Refused m k i j → job_of f d ts ≡ job (Refused m k i j) f d

@@ -4,7 +4,7 @@ use Rattle.ec20.specs.Memory.{with_d}
 use Rattle.ec20.specs.Plant.{Plant, plant}
 use Rattle.jobs.specs.Job.{Job, job_of}
 use Rattle.jobs.specs.Tasks.{Task}
-use Rattle.jobs.specs.declared.Jobbed.{Jobbed}
+use Rattle.jobs.specs.Jobbed.{Jobbed}
 
 -- the answer, the file, and memory and leftovers after the job
 pub record JobOver : Type 0 where

@@ -6,7 +6,7 @@ ghost use Rattle.std.specs.Prelude.{ℕ, ◌≡◌};
 ghost use Rattle.image.specs.Image.{plant_of, image_of};
 ghost use Rattle.jobs.specs.Job.{job_of};
 ghost use Rattle.jobs.specs.Tasks.{tasks_of};
-ghost use Rattle.jobs.specs.declared.Jobbed.TheVariants.{Refused};
+ghost use Rattle.jobs.specs.Jobbed.{Refused};
 ghost use Rattle.memory_jobs.specs.Images.{job_over, no_table};
 
 use jobs::Jobbed;

@@ -6,7 +6,7 @@ use lib.IntN.{ℤ, pos, negsuc}
 use lib.ListN.{get_or, set, take, replicate}
 use Rattle.ec20.specs.Bits.{bit_at, spread}
 use Rattle.ec20.specs.Registers.{word_at}
-use Rattle.modbus.specs.declared.Answered.TheVariants.{Refused, Silent, Reply}
+use Rattle.modbus.specs.Answered.{Refused, Silent, Reply}
 use Rattle.modbus.specs.Answer.{Answer, answer_of}
 use Rattle.modbus.specs.Crc.{with_crc}
 use Rattle.modbus.proofs.Computing.{requests}

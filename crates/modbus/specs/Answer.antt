@@ -3,8 +3,8 @@ use Rattle.std.specs.Prelude.{ℕ, ◌&&◌, List, leb, eqb, ℤ, length, Err}
 use Rattle.ec20.specs.Judged.{Judged}
 use Rattle.ec20.specs.Judged.{Fine, Fault}
 use Rattle.ec20.specs.Basics.{pick, then}
-use Rattle.modbus.specs.declared.Answered.{Answered}
-use Rattle.modbus.specs.declared.Answered.TheVariants.{Refused, Silent, Reply}
+use Rattle.modbus.specs.Answered.{Answered}
+use Rattle.modbus.specs.Answered.{Silent, Reply}
 use Rattle.modbus.specs.Crc.{with_crc}
 use Rattle.modbus.specs.Frame.{is_heard, is_broadcast}
 use Rattle.modbus.specs.Exceptions.{exception_of}
@@ -66,6 +66,6 @@ abbrev pub told : ℕ → ℕ → ℕ → ToldAnswer
 told n k l = record { number = n; kind = k; length = l }
 
 unfoldable pub told_by_answer : Answered → ToldAnswer
-told_by_answer (Refused n k) = told n 0 0
+told_by_answer (Err r) = told r.number 0 0
 told_by_answer Silent = told 0 1 0
 told_by_answer (Reply l) = told 0 2 l

@@ -14,7 +14,7 @@ use Rattle.ec20.specs.Moved.{To, Refused}
 use Rattle.jobs.proofs.Computing.{jobbing}
 use Rattle.jobs.specs.Job.{job_answer}
 use Rattle.jobs.specs.Tasks.{Task, task, move_by, tasks_meet, moved_by}
-use Rattle.jobs.specs.declared.Jobbed.TheVariants.{Done}
+use Rattle.jobs.specs.Jobbed.{Done}
 use Rattle.moved.proofs.Example.{bytes_below}
 use Rattle.orders.specs.Any.{Fits, AnyOrder}
 use Rattle.orders.specs.Jobs.{DoneAlike}

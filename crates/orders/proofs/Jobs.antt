@@ -21,8 +21,8 @@ use Rattle.ec20.specs.Verdict.{Accepted}
 use Rattle.jobs.proofs.Accepts.{Accepts, done-accepts, accepts-done}
 use Rattle.jobs.specs.Job.{job, job_if, job_for, job_answer, right_table, task_at}
 use Rattle.jobs.specs.Tasks.{Task, tasks_meet, back, moved_by, exchanged_by}
-use Rattle.jobs.specs.declared.Jobbed.{Jobbed}
-use Rattle.jobs.specs.declared.Jobbed.TheVariants.{Done}
+use Rattle.jobs.specs.Jobbed.{Jobbed}
+use Rattle.jobs.specs.Jobbed.{Done}
 use Rattle.orders.specs.Any.{Each, DisjointFrom, AllDisjoint, Fits, Reordered}
 use Rattle.orders.specs.Jobs.{DoneAlike}
 use Rattle.orders.specs.Two.{Goes, in_block, in_place, Disjoint}

@@ -25,8 +25,8 @@ use Rattle.ec20.specs.Verdict.{Accepted, Refused as Unfit}
 use Rattle.jobs.proofs.Laws.{all-accepted, all_apart, all-fail}
 use Rattle.jobs.specs.Job.{refused, task_then, by_tasks, task_at, met_by, meet_then, meetings, right_table, answer_after, job_answer}
 use Rattle.jobs.specs.Tasks.{Task, move_by, tasks_meet}
-use Rattle.jobs.specs.declared.Jobbed.{Jobbed}
-use Rattle.jobs.specs.declared.Jobbed.TheVariants.{Refused, Done}
+use Rattle.jobs.specs.Jobbed.{Jobbed}
+use Rattle.jobs.specs.Jobbed.{Refused, Done}
 use Rattle.orders.specs.Numbers.{Judged, FirstRefused, EachGoes, Alone, FirstMeeting, Told, told_16, told_1_8, told_9, told_line, told_meeting, told_done}
 use Rattle.orders.specs.Two.{Goes}
 

@@ -3,7 +3,7 @@ use Rattle.std.specs.Prelude.{ℕ, List, map, ◌≡◌, ℤ, length}
 use Rattle.ec20.specs.Devices.{Device}
 use Rattle.jobs.specs.Job.{job, job_for}
 use Rattle.jobs.specs.Tasks.{Task, back, moved_by, exchanged_by}
-use Rattle.jobs.specs.declared.Jobbed.TheVariants.{Done}
+use Rattle.jobs.specs.Jobbed.{Done}
 use Rattle.orders.specs.Any.{Reordered, AnyOrder}
 
 -- The job ts over the file f and the table d

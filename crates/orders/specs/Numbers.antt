@@ -6,8 +6,8 @@ use Rattle.ec20.specs.Moved.{Refused as NotMoved}
 use Rattle.ec20.specs.Verdict.{Accepted, Refused as Unfit}
 use Rattle.jobs.specs.Job.{task_at}
 use Rattle.jobs.specs.Tasks.{Task, move_by, tasks_meet}
-use Rattle.jobs.specs.declared.Jobbed.{Jobbed}
-use Rattle.jobs.specs.declared.Jobbed.TheVariants.{Refused, Done}
+use Rattle.jobs.specs.Jobbed.{Jobbed}
+use Rattle.jobs.specs.Jobbed.{Refused, Done}
 use Rattle.orders.specs.Two.{Goes}
 
 -- nothing of 16, 1 to 8 and 9: at most 64 lines, an accepted file, and a table of as many words as the device has, or of none

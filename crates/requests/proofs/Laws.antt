@@ -20,8 +20,8 @@ use Rattle.ec20.specs.File.{byte_at}
 use Rattle.ec20.proofs.BufferLaws.{append_assoc, sent-none, sent-more, sent-take, sent-over}
 use Rattle.modbus.proofs.Good.{four, eight-bytes, read-coils, read-registers, write-coils, write-registers}
 use Rattle.modbus.proofs.Lengths.{coils-told, registers-told}
-use Rattle.modbus.specs.declared.Answered.{Answered}
-use Rattle.modbus.specs.declared.Answered.TheVariants.{Refused, Silent, Reply}
+use Rattle.modbus.specs.Answered.{Answered}
+use Rattle.modbus.specs.Answered.{Refused, Silent, Reply}
 use Rattle.modbus.specs.Answer.{Answer, tables_fault, call_fault, judge_answer, replied, heard, answer_of}
 use Rattle.ec20.specs.Buffer.{over, sent}
 use Rattle.modbus.specs.Crc.{crc_of, with_crc}

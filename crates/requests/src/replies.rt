@@ -2,8 +2,8 @@
 ghost use Rattle.std.specs.Prelude.{ℕ, ◌+◌, ◌<◌, ◌≤◌, length, take, List, [], ◌∷◌, ◌++◌, ◌≡◌};
 ghost use Rattle.ec20.specs.Buffer.{sent};
 ghost use Rattle.modbus.specs.Crc.{with_crc};
-ghost use Rattle.modbus.specs.declared.Answered.{Answered};
-ghost use Rattle.modbus.specs.declared.Answered.TheVariants.{Reply};
+ghost use Rattle.modbus.specs.Answered.{Answered};
+ghost use Rattle.modbus.specs.Answered.{Reply};
 ghost use Rattle.modbus.specs.Frame.{function_of};
 ghost use Rattle.modbus.specs.Replies.{coils_reply, registers_reply, reply_to, exception_to};
 ghost use Rattle.requests.specs.Fit.{Fit};

@@ -18,7 +18,7 @@ use Rattle.torn.proofs.Stops.{kept-most}
 use Rattle.torn.specs.Kept.{kept_of}
 use Rattle.torn.specs.Salvage.{records_in, size_for, file_with, rest_of, Salvage, saved, salvage_by, kept_in, salvage_for}
 use Rattle.torn.specs.declared.Kept.{Kept}
-use Rattle.torn.specs.declared.Salvaged.TheVariants.{Refused, Done}
+use Rattle.torn.specs.Salvaged.{Refused, Done}
 
 -- so many bytes more in the rest, whatever is answered
 abbrev more : ℕ → Salvage → Salvage

@@ -16,7 +16,7 @@ use Rattle.torn.proofs.Stops.{Open, stops_end, stops-all}
 use Rattle.torn.specs.Kept.{passes, is_end, kept}
 use Rattle.torn.specs.Salvage.{kept_in, records_in, size_for, file_with, rest_of, saved, salvage_by, salvage_for}
 use Rattle.torn.specs.declared.Kept.{Kept}
-use Rattle.torn.specs.declared.Salvaged.TheVariants.{Done}
+use Rattle.torn.specs.Salvaged.{Done}
 
 -- a salvage that is refused by neither 1 nor 16
 pub salvage-done : (k : Kept) (t b s : List ℕ) (r : ℕ) → records_in k ≤ 2000 → size_for (records_in k) ≤ length b → file_with t k ≡ s → rest_of t k ≡ r

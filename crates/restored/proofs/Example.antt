@@ -19,7 +19,7 @@ use Rattle.restored.proofs.Restored.{restored}
 use Rattle.restored.specs.Restored.{Sound}
 use Rattle.torn.specs.Kept.{passes, run_of, end_of, kept_of}
 use Rattle.torn.specs.Salvage.{kept_in, file_with, saved, salvage_for, salvage_of}
-use Rattle.torn.specs.declared.Salvaged.TheVariants.{Refused, Done}
+use Rattle.torn.specs.Salvaged.{Refused, Done}
 
 -- an output of n bytes
 abbrev out : ℕ → List ℕ

@@ -16,7 +16,7 @@ use Rattle.restored.specs.Restored.{Sound, Begins, Restored}
 use Rattle.torn.proofs.Stops.{Open}
 use Rattle.torn.specs.Kept.{passes, is_end}
 use Rattle.torn.specs.Salvage.{file_with, mended, saved, salvage_for}
-use Rattle.torn.specs.declared.Salvaged.TheVariants.{Done}
+use Rattle.torn.specs.Salvaged.{Done}
 
 module _ (v : Device) (f : List ℕ) (n : ℕ) (s : Sound v f n) where
   -- ---- with whatever behind its records

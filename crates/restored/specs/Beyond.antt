@@ -1,15 +1,15 @@
 -- A file is salvaged by its first 2,001 records: what stands behind them is part of the rest and nothing else. So the command reads the start of a file and
 -- counts what follows.
-use Rattle.std.specs.Prelude.{ℕ, ◌+◌, ◌≤◌, List, ◌++◌, ◌≡◌, length}
+use Rattle.std.specs.Prelude.{ℕ, ◌+◌, ◌≤◌, List, ◌++◌, ◌≡◌, length, Err, Ok}
 use Rattle.ec20.specs.Devices.{Device}
 use Rattle.torn.specs.Salvage.{saved, salvage_for}
-use Rattle.torn.specs.declared.Salvaged.{Salvaged}
-use Rattle.torn.specs.declared.Salvaged.TheVariants.{Refused, Done}
+use Rattle.torn.specs.Salvaged.{Salvaged}
+use Rattle.torn.specs.Salvaged.{Refused, Done}
 
 -- the same answer with so many bytes more in the rest
 abbrev pub with_more : ℕ → Salvaged → Salvaged
-with_more n (Refused m k) = Refused m k
-with_more n (Done k a r) = Done k a (r + n)
+with_more n (Err r) = Refused r.number r.at
+with_more n (Ok a2) = Done a2.kept a2.added (a2.rest + n)
 
 -- of a file that begins with t, 2,001 records or more, and goes on with u
 abbrev pub Beyond : Device → Type 0

@@ -4,7 +4,7 @@ use Rattle.std.specs.Prelude.{ℕ, ◌≤◌, ◌<◌, List, length}
 use Rattle.ec20.specs.Buffer.{sent}
 use Rattle.ec20.specs.Devices.{Device}
 use Rattle.torn.specs.Salvage.{kept_in, records_in, size_for, mended, rest_of, Salvage, saved}
-use Rattle.torn.specs.declared.Salvaged.TheVariants.{Refused, Done}
+use Rattle.torn.specs.Salvaged.{Refused, Done}
 
 -- of the torn file t and the output b
 pub data Told (v : Device) (t b : List ℕ) : Salvage → Type 0 where

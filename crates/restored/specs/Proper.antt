@@ -7,7 +7,7 @@ use Rattle.ec20.specs.File.{record_from, framed, first_of, count_of}
 use Rattle.ec20.specs.Verdict.{Refused as Unfit}
 use Rattle.torn.specs.Kept.{passes, is_end}
 use Rattle.torn.specs.Salvage.{kept_in, records_in, mended, saved, salvage_for}
-use Rattle.torn.specs.declared.Salvaged.TheVariants.{Done}
+use Rattle.torn.specs.Salvaged.{Done}
 use Rattle.ec20.specs.Buffer.{sent}
 
 -- The file s has n records and no comment, END as its last and nowhere else; none is refused by 2 or 3, and the file not by 1.

@@ -7,7 +7,7 @@ use Rattle.ec20.specs.File.{byte_at, first_of, record_from}
 use Rattle.ec20.specs.Written.{trailer_of, end_record}
 use Rattle.ec20.specs.Verdict.{Accepted}
 use Rattle.torn.specs.Salvage.{mended, saved, salvage_for}
-use Rattle.torn.specs.declared.Salvaged.TheVariants.{Done}
+use Rattle.torn.specs.Salvaged.{Done}
 
 -- "an accepted edition 1 file without comments", of n records: a file of bytes. The check accepts no other edition.
 pub record Sound (v : Device) (f : List ℕ) (n : ℕ) : Type 0 where

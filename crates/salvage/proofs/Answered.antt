@@ -11,7 +11,7 @@ use Rattle.torn.proofs.Capped.{too_many, looked-enough}
 use Rattle.torn.specs.Kept.{kept_of}
 use Rattle.torn.specs.Salvage.{records_in, size_for, file_with, rest_of, saved, salvage_by, salvage_of}
 use Rattle.torn.specs.declared.Kept.{Kept}
-use Rattle.torn.specs.declared.Salvaged.TheVariants.{Refused, Done}
+use Rattle.torn.specs.Salvaged.{Refused, Done}
 
 module _ (t b : List ℕ) (c : ℕ) (k : Kept) (looked : c ≡ min (length t / 20) 2001) (is : k ≡ kept_of ec20 (records_as 1 t 0 c)) where
   by-kept : salvage_by k t b ≡ salvage_of t b

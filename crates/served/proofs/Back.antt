@@ -18,7 +18,7 @@ use Rattle.ec20.specs.Bits.{bit_at, with_bit}
 use Rattle.ec20.specs.File.{byte_at, u16_at}
 use Rattle.ec20.specs.Registers.{word_at}
 use Rattle.modbus.proofs.Good.{eight, eight-bytes, write-coil, write-register, write-coils, write-registers}
-use Rattle.modbus.specs.declared.Answered.TheVariants.{Reply}
+use Rattle.modbus.specs.Answered.{Reply}
 use Rattle.modbus.specs.Answer.{Answer, tables_fault, call_fault, judge_answer, replied, heard, answer_of}
 use Rattle.ec20.specs.Buffer.{sent}
 use Rattle.modbus.specs.Crc.{crc_of, with_crc}

@@ -12,7 +12,7 @@ use Rattle.bits.proofs.Laws.{bit_length}
 use Rattle.ec20.specs.Registers.{word_at}
 use Rattle.modbus.proofs.Good.{range-fits}
 use Rattle.modbus.proofs.Lengths.{coils-kept, registers-kept}
-use Rattle.modbus.specs.declared.Answered.TheVariants.{Refused, Silent}
+use Rattle.modbus.specs.Answered.{Refused, Silent}
 use Rattle.modbus.specs.Answer.{Answer, replied, answer_of}
 use Rattle.modbus.specs.Exceptions.{is_of_coils, is_single, meant, exception_of}
 use Rattle.modbus.specs.Frame.{function_of, address_of, quantity_of, is_heard}

@@ -9,8 +9,8 @@ use Rattle.std.specs.Prelude.{Err}
 use Rattle.ec20.proofs.Tests.{picked}
 use Rattle.ec20.specs.Judged.{Judged}
 use Rattle.ec20.specs.Judged.{Fine, Fault}
-use Rattle.modbus.specs.declared.Answered.{Answered}
-use Rattle.modbus.specs.declared.Answered.TheVariants.{Refused, Silent, Reply}
+use Rattle.modbus.specs.Answered.{Answered}
+use Rattle.modbus.specs.Answered.{Refused, Silent, Reply}
 use Rattle.modbus.specs.Answer.{Answer, judge_answer, silent, replied, heard, answer_if, answer_of}
 use Rattle.modbus.specs.Exceptions.{exception_of}
 use Rattle.modbus.specs.Frame.{is_heard, is_broadcast}

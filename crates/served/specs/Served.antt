@@ -5,7 +5,7 @@ use Rattle.ec20.specs.Basics.{one_if}
 use Rattle.ec20.specs.Bits.{bit_at}
 use Rattle.ec20.specs.File.{byte_at}
 use Rattle.ec20.specs.Registers.{word_at}
-use Rattle.modbus.specs.declared.Answered.TheVariants.{Refused, Silent, Reply}
+use Rattle.modbus.specs.Answered.{Refused, Silent, Reply}
 use Rattle.modbus.specs.Answer.{judge_answer, answer_of}
 use Rattle.ec20.specs.Buffer.{sent}
 use Rattle.modbus.specs.Exceptions.{value_on, bytes_of, exception_of}

@@ -10,15 +10,16 @@ use native.Mathlib.Omega.{arith}
 use lib.ListN.{length, get_or-eq_default}
 use lib.Dec.{ltb, leb, eqb}
 use borrow.Author.Tests.{ltb-false, leb-true, eqb-true, eqb-false, le-leb, lt-leb, lt-ltb, le-ltb, eq-eqb, ne_eqb}
+use Rattle.std.specs.Prelude.{Some}
 use Rattle.ec20.proofs.Some.{some_at, at_some}
 use Rattle.ec20.proofs.Tests.{both, neither, is_false, picked}
 use Rattle.ec20.specs.Basics.{pick, some_from}
 use Rattle.units.specs.Spelling.{blank, line_feed, byte_in, is_digit, digit_of, digits_of, wrong, number_at}
 use Rattle.units.specs.Text.{named, line_by_length, line_by_start, line_at}
 use Rattle.units.specs.declared.Digits.{Digits}
-use Rattle.units.specs.declared.Number.{Number}
-use Rattle.units.specs.declared.Number.TheVariants as N
-use Rattle.units.specs.declared.Line.TheVariants as L
+use Rattle.units.specs.Number.{Number}
+use Rattle.units.specs.Number as N
+use Rattle.units.specs.Line as L
 use Rattle.spelling.specs.Bounds.{NumberIn, LineIn}
 
 -- a byte that is not 0 stands within the text
@@ -183,16 +184,16 @@ module _ (s : List ℕ) (from most : ℕ) where
 -- what is known of a line
 by-length-in : (s : List ℕ) (from most a k : ℕ) (n : Number) → a ≤ most → from + 8 ≤ k → NumberIn k most n → LineIn (length s) from most (line_by_length s a n)
 by-length-in s from most a k N.Misspelt l u h = tt
-by-length-in s from most a k (N.Spelt v e) l u h =
-    picked (LineIn (length s) from most) (eqb (byte_in s e) line_feed) (L.Spelt a v (e + 1)) L.Misspelt
-    (λ g. let i : e < length s = stands s e 10 (sym (eqb-true _ _ g)) (omega arith) in (l, h.0, omega (arith, h.1), omega arith))
+by-length-in s from most a k (Some w) l u h =
+    picked (LineIn (length s) from most) (eqb (byte_in s w.next) line_feed) (L.Spelt a w.value (w.next + 1)) L.Misspelt
+    (λ g. let i : w.next < length s = stands s w.next 10 (sym (eqb-true _ _ g)) (omega arith) in (l, h.0, omega (arith, h.1), omega arith))
     (λ g. tt)
 
 by-start-in : (s : List ℕ) (from most : ℕ) (n : Number) → NumberIn (from + 9) most n → LineIn (length s) from most (line_by_start s most n)
 by-start-in s from most N.Misspelt h = tt
-by-start-in s from most (N.Spelt a e) h =
-    picked (LineIn (length s) from most) (eqb (byte_in s e) blank) (line_by_length s a (number_at s (e + 1) most)) L.Misspelt
-    (λ g. by-length-in s from most a (e + 1) (number_at s (e + 1) most) h.0 (omega (arith, h.1)) (number_in s (e + 1) most))
+by-start-in s from most (Some w) h =
+    picked (LineIn (length s) from most) (eqb (byte_in s w.next) blank) (line_by_length s w.value (number_at s (w.next + 1) most)) L.Misspelt
+    (λ g. by-length-in s from most w.value (w.next + 1) (number_at s (w.next + 1) most) h.0 (omega (arith, h.1)) (number_in s (w.next + 1) most))
     (λ g. tt)
 
 pub line-in : (s : List ℕ) (from most : ℕ) → LineIn (length s) from most (line_at s from most)

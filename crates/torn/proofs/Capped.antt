@@ -12,7 +12,7 @@ use Rattle.torn.proofs.Stops.{Same, same, goes_on, looked-at, kept-least}
 use Rattle.torn.specs.Kept.{kept_of}
 use Rattle.torn.specs.Salvage.{records_in, saved, salvage_by, kept_in, salvage_for}
 use Rattle.torn.specs.declared.Kept.{Kept}
-use Rattle.torn.specs.declared.Salvaged.TheVariants.{Refused}
+use Rattle.torn.specs.Salvaged.{Refused}
 
 -- 1
 pub too_many : (k : Kept) (t b : List ℕ) → 2000 < records_in k → salvage_by k t b ≡ saved (Refused 1 0) b

@@ -11,8 +11,8 @@ use Rattle.ec20.specs.Basics.{pick}
 use Rattle.ec20.specs.Buffer.{sent}
 use Rattle.ec20.specs.Devices.{ec20}
 use Rattle.torn.specs.Salvage.{records_in, size_for, file_with, rest_of, Salvage, saved, kept_in, salvage_for, salvage_of}
-use Rattle.torn.specs.declared.Salvaged.{Salvaged}
-use Rattle.torn.specs.declared.Salvaged.TheVariants.{Refused, Done}
+use Rattle.torn.specs.Salvaged.{Salvaged}
+use Rattle.torn.specs.Salvaged.{Refused, Done}
 
 -- by the two tests
 by_tests : (x y : Bool) (c a q n m r : ℕ) (f b : List ℕ)

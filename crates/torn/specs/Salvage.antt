@@ -1,14 +1,14 @@
 -- DOCUMENT 02, (x), what comes of a salvage. "More than 2,000 records, an added END included, is 1, then an output too small 16; neither writes anything.
 -- Write a proper file and report records kept, whether END was added, and input bytes after those."
-use Rattle.std.specs.Prelude.{ℕ, ◌+◌, ◌-◌, ◌*◌, List, [], ◌++◌, leb, eqb, length, take}
+use Rattle.std.specs.Prelude.{ℕ, ◌+◌, ◌-◌, ◌*◌, List, [], ◌++◌, leb, eqb, length, take, Err, Ok}
 use Rattle.ec20.specs.Basics.{pick}
 use Rattle.ec20.specs.Buffer.{sent}
 use Rattle.ec20.specs.Devices.{Device, ec20}
 use Rattle.ec20.specs.Written.{trailer_of, end_record}
 use Rattle.torn.specs.Kept.{whole_records, kept_of}
 use Rattle.torn.specs.declared.Kept.{Kept}
-use Rattle.torn.specs.declared.Salvaged.{Salvaged}
-use Rattle.torn.specs.declared.Salvaged.TheVariants.{Refused, Done}
+use Rattle.torn.specs.Salvaged.{Salvaged}
+use Rattle.torn.specs.Salvaged.{Refused, Done}
 
 -- what is kept of a torn file
 unfoldable pub kept_in : Device → List ℕ → Kept
@@ -67,5 +67,5 @@ pub record ToldSalvage : Type 0 where
   pub rest : ℕ
 
 unfoldable pub told_by_salvage : Salvaged → ToldSalvage
-told_by_salvage (Refused m k) = record { number = m; at = k; kept = 0; added = 0; rest = 0 }
-told_by_salvage (Done n a r) = record { number = 0; at = 0; kept = n; added = a; rest = r }
+told_by_salvage (Err r) = record { number = r.number; at = r.at; kept = 0; added = 0; rest = 0 }
+told_by_salvage (Ok s) = record { number = 0; at = 0; kept = s.kept; added = s.added; rest = s.rest }

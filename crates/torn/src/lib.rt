@@ -8,16 +8,10 @@ pub struct Kept {
     pub added: usize,
 }
 
-// What comes of a salvage: refused; or done: so many records kept, so many END records added, 0 or 1, and so many bytes of the input after those kept.
+// What is told of a salvage that is done: so many records kept, so many END records added, 0 or 1, and so many bytes of the input after those kept.
 #[derive(Clone, Copy)]
-pub enum Salvaged {
-    Refused {
-        number: usize,
-        record: usize,
-    },
-    Done {
-        kept: usize,
-        added: usize,
-        rest: usize,
-    },
+pub struct Saved {
+    pub kept: usize,
+    pub added: usize,
+    pub rest: usize,
 }

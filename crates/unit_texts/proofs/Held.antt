@@ -15,8 +15,8 @@ use Rattle.units.specs.Listed.{declaration, unit_at, entry_of, units_of}
 use Rattle.units.specs.Reading.{Entry, spelt, Read}
 use Rattle.units.specs.declared.Declaration.{Declaration}
 use Rattle.units.specs.declared.Table.{Table}
-use Rattle.units.specs.declared.UnitLine.{UnitLine}
-use Rattle.units.specs.declared.UnitLine.TheVariants as U
+use Rattle.units.specs.UnitLine.{UnitLine}
+use Rattle.units.specs.UnitLine as U
 use Rattle.unit_texts.specs.Held.{nothing, table_of, put_of, held_of}
 
 -- the line at a place, as an entry

@@ -7,17 +7,18 @@ use lib.Dec.{eqb}
 use lib.ListN.{length, get_or, take, drop}
 use lib.Seq.{drop-cons}
 use borrow.Author.Tests.{ne_eqb}
+use Rattle.std.specs.Prelude.{Some}
 use Rattle.ec20.proofs.Tests.{picked}
 use Rattle.spelling.proofs.Laws.{number_in, line-in}
 use Rattle.spelling.specs.Bounds.{NumberIn, LineIn}
 use Rattle.units.specs.Spelling.{blank, byte_in, number_at}
 use Rattle.units.specs.Text.{line_at}
 use Rattle.units.specs.Listed.{unit_by_line, unit_by_number, unit_at}
-use Rattle.units.specs.declared.Number.{Number}
-use Rattle.units.specs.declared.Number.TheVariants as N
-use Rattle.units.specs.declared.Line.{Line}
-use Rattle.units.specs.declared.Line.TheVariants as L
-use Rattle.units.specs.declared.UnitLine.TheVariants as U
+use Rattle.units.specs.Number.{Number}
+use Rattle.units.specs.Number as N
+use Rattle.units.specs.Line.{Line}
+use Rattle.units.specs.Line as L
+use Rattle.units.specs.UnitLine as U
 use Rattle.unit_texts.specs.Held.{UnitIn}
 
 -- ---- the name
@@ -65,13 +66,13 @@ module _ (s : List ℕ) (from : ℕ) (x : Number) (ex : x ≡ number_at s from 6
 -- what is known of a line
 by-line-in : (n from u p : ℕ) (y : Line) → u ≤ 65535 → from < p → LineIn n p 4294967295 y → UnitIn n from (unit_by_line u p y)
 by-line-in n from u p L.Misspelt l h g = tt
-by-line-in n from u p (L.Spelt a m e) l h g = (l, omega (arith, g.2, g.3), g.0, g.1, omega (arith, g.2), g.3)
+by-line-in n from u p (Some w) l h g = (l, omega (arith, g.2, g.3), g.0, g.1, omega (arith, g.2), g.3)
 
 by-number-in : (s : List ℕ) (from : ℕ) (x : Number) → NumberIn from 65535 x → UnitIn (length s) from (unit_by_number s x)
 by-number-in s from N.Misspelt h = tt
-by-number-in s from (N.Spelt u e) h =
-    picked (UnitIn (length s) from) (eqb (byte_in s e) blank) (unit_by_line u (e + 1) (line_at s (e + 1) 4294967295)) U.Misspelt
-    (λ g. by-line-in (length s) from u (e + 1) (line_at s (e + 1) 4294967295) h.0 (omega (arith, h.1)) (line-in s (e + 1) 4294967295))
+by-number-in s from (Some w) h =
+    picked (UnitIn (length s) from) (eqb (byte_in s w.next) blank) (unit_by_line w.value (w.next + 1) (line_at s (w.next + 1) 4294967295)) U.Misspelt
+    (λ g. by-line-in (length s) from w.value (w.next + 1) (line_at s (w.next + 1) 4294967295) h.0 (omega (arith, h.1)) (line-in s (w.next + 1) 4294967295))
     (λ g. tt)
 
 pub unit-in : (s : List ℕ) (from : ℕ) → UnitIn (length s) from (unit_at s from)

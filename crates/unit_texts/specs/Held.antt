@@ -1,12 +1,12 @@
 -- What is held of a unit list that was read: a judgement as two numbers, and the first 64 declarations by value.
-use Rattle.std.specs.Prelude.{ℕ, ◌+◌, ◌<◌, ◌≤◌, List, ltb, length, set, replicate}
+use Rattle.std.specs.Prelude.{ℕ, ◌+◌, ◌<◌, ◌≤◌, List, ltb, length, set, replicate, Some}
 use Rattle.ec20.specs.Basics.{pick}
 use Rattle.units.specs.Kept.{first_of, good_of, line_of}
 use Rattle.units.specs.Reading.{Read}
 use Rattle.units.specs.declared.Declaration.{Declaration}
 use Rattle.units.specs.declared.Table.{Table}
-use Rattle.units.specs.declared.UnitLine.{UnitLine}
-use Rattle.units.specs.declared.UnitLine.TheVariants as U
+use Rattle.units.specs.UnitLine.{UnitLine}
+use Rattle.units.specs.UnitLine as U
 use Rattle.unit_texts.specs.declared.Units.{Units}
 
 -- an entry that holds nothing: all zeros
@@ -24,7 +24,7 @@ put_of t i d = pick (ltb i 64) (record { at = set t.at i d }) t
 -- a line of a text of n bytes, which begins at a place: how large its numbers are, and that its name and its end stand in the text, after that place
 abbrev pub UnitIn : ℕ → ℕ → UnitLine → Type 0
 UnitIn n from U.Misspelt = Unit {0}
-UnitIn n from (U.Spelt u p a m e) = (u ≤ 65535) × (p + 8 ≤ n) × (a ≤ 4294967295) × (m ≤ 4294967295) × (from < e) × (e ≤ n)
+UnitIn n from (Some w) = (w.unit ≤ 65535) × (w.name + 8 ≤ n) × (w.start ≤ 4294967295) × (w.length ≤ 4294967295) × (from < w.next) × (w.next ≤ n)
 
 -- what is held of what was read
 unfoldable pub held_of : Read Declaration → Units

@@ -8,11 +8,11 @@ use Rattle.ec20.specs.Judged.{Fine, Fault}
 use Rattle.units.specs.Clash.{listed, clash_of}
 use Rattle.units.specs.Report.{pair, clashes_of, judge_clashes, report_of, reported}
 use Rattle.units.specs.Text.{first_line, longer_of}
-use Rattle.units.specs.Listed.{declaration, units_of}
+use Rattle.units.specs.Listed.{units_of}
 use Rattle.units.specs.Reading.{read}
-use Rattle.units.specs.declared.Clashed.TheVariants.{Refused, Clashes}
+use Rattle.units.specs.Clashed.{Refused, Clashes}
 use Rattle.units.specs.declared.Declaration.{Declaration}
-use Rattle.units.specs.declared.Line.TheVariants as L
+use Rattle.units.specs.Line as L
 use Rattle.units.proofs.Computing.{declarations}
 
 -- names: MIXER and three blanks, and the same with another eighth byte

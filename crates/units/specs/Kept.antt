@@ -1,7 +1,7 @@
 -- What is kept of a text that was read: its entries in a room of so many places, and the judgement as a test and a line.
 use Rattle.std.specs.Prelude.{ℕ, Bool, true, false, List, [], ◌∷◌, replicate, Err}
 use Rattle.ec20.specs.Judged.{Judged}
-use Rattle.ec20.specs.Judged.{Fine, Fault}
+use Rattle.ec20.specs.Judged.{Fine}
 
 -- the entries of a list in a room: from its first place on, those past its end left out; places past them stay as they were
 unfoldable pub kept_in : {A : Type 0} → List A → List A → List A

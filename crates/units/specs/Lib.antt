@@ -1,8 +1,12 @@
 pub mod Clash
+pub mod Clashed
 pub mod Report
+pub mod Number
 pub mod Spelling
+pub mod Line
 pub mod Text
 pub mod Reading
 pub mod Kept
+pub mod UnitLine
 pub mod Listed
 pub mod Splits

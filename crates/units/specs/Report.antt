@@ -7,8 +7,8 @@ use Rattle.ec20.specs.Move.{Block, block, block_fault}
 use Rattle.ec20.specs.Judged.{Judged}
 use Rattle.ec20.specs.Judged.{Fine, Fault}
 use Rattle.units.specs.Clash.{Declared, clash_of}
-use Rattle.units.specs.declared.Clashed.{Clashed}
-use Rattle.units.specs.declared.Clashed.TheVariants.{Refused, Clashes}
+use Rattle.units.specs.Clashed.{Clashed}
+use Rattle.units.specs.Clashed.{Clashes}
 use Rattle.units.specs.declared.Declaration.{Declaration}
 
 -- two places, the lower first
@@ -82,5 +82,5 @@ pub record ToldClashes : Type 0 where
   pub count : ℕ
 
 unfoldable pub told_by_clashes : Clashed → ToldClashes
-told_by_clashes (Refused n k) = record { number = n; count = 0 }
+told_by_clashes (Err r) = record { number = r.number; count = 0 }
 told_by_clashes (Clashes c) = record { number = 0; count = c }

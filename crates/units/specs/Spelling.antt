@@ -2,8 +2,8 @@
 use Rattle.std.specs.Prelude.{ℕ, zero, suc, ◌+◌, ◌-◌, ◌*◌, Bool, ◌&&◌, ◌||◌, List, get_or, ltb, leb, eqb}
 use Rattle.ec20.specs.Basics.{pick}
 use Rattle.units.specs.declared.Digits.{Digits}
-use Rattle.units.specs.declared.Number.{Number}
-use Rattle.units.specs.declared.Number.TheVariants as N
+use Rattle.units.specs.Number.{Number}
+use Rattle.units.specs.Number as N
 
 -- the bytes that part a line
 abbrev pub blank : ℕ

@@ -4,7 +4,7 @@
 
 // A unit's declaration of a block of D words, laid out as in C: 20 bytes.
 #[repr(C)]
-#[derive(Clone, Copy)]
+#[derive(Clone, Copy, PartialEq, Eq)]
 pub struct Declaration {
     pub unit: u32,
     pub name: [u8; 8],
@@ -18,13 +18,6 @@ pub struct Table {
     pub at: [Declaration; 64],
 }
 
-// What comes of a list: it is refused by 10 or 16; or the report has so many clashes.
-#[derive(Clone, Copy)]
-pub enum Clashed {
-    Refused { number: usize, record: usize },
-    Clashes { count: usize },
-}
-
 // A number as far as it is read: its value, and the place after its digits.
 #[derive(Clone, Copy)]
 pub struct Digits {
@@ -32,34 +25,20 @@ pub struct Digits {
     pub next: usize,
 }
 
-// A number in a text: not spelt as it must be; or its value, and the place after it.
+// A declaration in a text: the start and the length of its block, and the place after its line feed.
 #[derive(Clone, Copy)]
-pub enum Number {
-    Misspelt,
-    Spelt { value: u64, next: usize },
+pub struct Line {
+    pub start: u64,
+    pub length: u64,
+    pub next: usize,
 }
 
-// A declaration in a text: not spelt as it must be; or the start and the length of its block, and the place after its line feed.
+// A line of a unit list: its unit, the place of its name, the start and the length of its block, and the place after its line feed.
 #[derive(Clone, Copy)]
-pub enum Line {
-    Misspelt,
-    Spelt {
-        start: u64,
-        length: u64,
-        next: usize,
-    },
-}
-
-// A line of a unit list: not spelt as it must be; or its unit, the place of its name, the start and the length of its block, and the place after its
-// line feed.
-#[derive(Clone, Copy)]
-pub enum UnitLine {
-    Misspelt,
-    Spelt {
-        unit: u64,
-        name: usize,
-        start: u64,
-        length: u64,
-        next: usize,
-    },
+pub struct UnitLine {
+    pub unit: u64,
+    pub name: usize,
+    pub start: u64,
+    pub length: u64,
+    pub next: usize,
 }

@@ -1,14 +1,14 @@
 -- Whether an answer is the one that a case wants, and which count it is of.
-use Rattle.std.specs.Prelude.{ℕ, ◌+◌, Bool, ◌&&◌, ◌||◌, List, ltb, eqb, length}
+use Rattle.std.specs.Prelude.{ℕ, ◌+◌, Bool, ◌&&◌, ◌||◌, List, ltb, eqb, length, Err}
 use Rattle.ec20.specs.Basics.{pick}
 use Rattle.ec20.specs.File.{byte_at}
-use Rattle.modbus.specs.declared.Answered.{Answered}
-use Rattle.modbus.specs.declared.Answered.TheVariants.{Refused, Silent, Reply}
+use Rattle.modbus.specs.Answered.{Answered}
+use Rattle.modbus.specs.Answered.{Refused, Silent, Reply}
 use Rattle.vectors_requests.specs.declared.judge.Wanted.{Wanted}
 
 -- the kind is 0 for refused, 1 for silent, 2 for a reply; the number is that of the refusal, or 0. The record told is always 0.
 abbrev pub wants : Wanted → Answered → Bool
-wants w (Refused n k) = eqb w.kind 0 && eqb w.number n && eqb k 0
+wants w (Err r) = eqb w.kind 0 && eqb w.number r.number && eqb r.at 0
 wants w Silent = eqb w.kind 1 && eqb w.number 0
 wants w (Reply n) = eqb w.kind 2 && eqb w.number 0 && eqb w.length n
 
@@ -28,6 +28,6 @@ reply_count function code =
 
 -- the count of an answer, whose reply stands in b
 abbrev pub count_of : Answered → List ℕ → ℕ
-count_of (Refused n k) b = n
+count_of (Err r) b = r.number
 count_of Silent b = 0
 count_of (Reply n) b = pick (ltb (length b) 3) 19 (reply_count (byte_at b 1) (byte_at b 2))

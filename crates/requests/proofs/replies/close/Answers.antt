@@ -1,7 +1,7 @@
 use mathlib.Core.Path.{ap}
 use native.Mathlib.Omega.{arith}
 use lib.ListN.{length-set}
-use Rattle.modbus.specs.declared.Answered.TheVariants.{Reply}
+use Rattle.modbus.specs.Answered.{Reply}
 use Rattle.requests.proofs.Laws.{closed, closed-length}
 use Rattle.requests.proofs.replies.close.Goals as goal
 
