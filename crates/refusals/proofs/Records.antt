@@ -15,6 +15,7 @@ use Rattle.ec20.specs.File.{Records}
 use Rattle.ec20.specs.Operands.{is_known, operands_ok, target_in_work, fault_of, fault_in, first_bad}
 use Rattle.ec20.specs.Table.{row_of}
 use Rattle.ec20.proofs.Laws.{no-fault, the-first}
+use Rattle.ec20.proofs.Parts.{refused-parts}
 use Rattle.ec20.proofs.Tests.{both, differ}
 use Rattle.refusals.specs.First.{First, Never}
 use Rattle.refusals.specs.Records.{Line2, unknown, spare, Line3, Line4, Line2to4, by_2, by_3, by_4}
@@ -100,7 +101,7 @@ inside fault k (suc n) m i e = go (fault k) e (λ q. inside fault (suc k) n m i 
     go : (x : ℕ) → judged x k (first_fault fault (suc k) n) ≡ Fault m i
         → (first_fault fault (suc k) n ≡ Fault m i → (i < suc k + n) × (0 < m)) → (i < k + suc n) × (0 < m)
     go zero q rec = let r = rec q in (omega (arith, r.0), r.1)
-    go (suc x) q rec = let a : suc x ≡ m = cc in let b : k ≡ i = cc in (omega arith, omega arith)
+    go (suc x) q rec = let p = refused-parts (suc x) k m i q in (omega (arith, p.1), omega (arith, p.0))
 
 module _ (v : Device) (rs : Records) where
   abbrev pub Breaks : ℕ → Type 0
@@ -114,8 +115,8 @@ module _ (v : Device) (rs : Records) where
   told : (x : Judged) → first_bad v rs ≡ x → Judges2-4 x
   told Fine e = λ j h l. none-broken v (rs.at j) (number v (rs.at j)) (no-fault (λ k. fault_in v (rs.at k)) 0 rs.count e j (omega arith) (omega arith)) l
   told (Err r) e =
-      let a = the-first (λ r.at. fault_in v (rs.at r.at)) 0 rs.count r.number r.at e in
-      let b = inside (λ r.at. fault_in v (rs.at r.at)) 0 rs.count r.number r.at e in
+      let a = the-first (λ j. fault_in v (rs.at j)) 0 rs.count r.number r.at e in
+      let b = inside (λ j. fault_in v (rs.at j)) 0 rs.count r.number r.at e in
       let c : Number v (rs.at r.at) r.number = subst (Number v (rs.at r.at)) a.0 (number v (rs.at r.at)) in
       let h : r.at < rs.count = omega (arith, b.0) in (
         record {

@@ -20,20 +20,23 @@ use Rattle.refusals.proofs.Check.{steps-there, w-exactly, told, answer}
 use Rattle.refusals.proofs.Steps.{w-is}
 
 -- what each number says
+abbrev By : Device → List ℕ → ℕ → ℕ → Type 0
+By v f zero k = ⊥
+By v f (suc zero) k = (k ≡ 0) × Line1 f
+By v f (suc (suc zero)) k = Not1 f × First2to4 v f k × Line2 (record_at f k)
+By v f (suc (suc (suc zero))) k = Not1 f × First2to4 v f k × (Line2 (record_at f k) → ⊥) × Line3 v (record_at f k)
+By v f (suc (suc (suc (suc zero)))) k =
+    Not1 f × First2to4 v f k × (Line2 (record_at f k) → ⊥) × (Line3 v (record_at f k) → ⊥) × Line4 v (record_at f k)
+By v f (suc (suc (suc (suc (suc zero))))) k = Not1 f × Not2to4 v f × First5 f k
+By v f (suc (suc (suc (suc (suc (suc zero)))))) k = Not1 f × Not2to4 v f × Not5 f × First6 f k
+By v f (suc (suc (suc (suc (suc (suc (suc zero))))))) k = Not1 f × Not2to4 v f × Not5 f × Not6 f × First7 f k
+By v f (suc (suc (suc (suc (suc (suc (suc (suc zero)))))))) k =
+    (k ≡ 0) × Not1 f × Not2to4 v f × Not5 f × Not6 f × Not7 f × Line8 (program_of f)
+By v f (suc (suc (suc (suc (suc (suc (suc (suc (suc n))))))))) k = ⊥
+
 abbrev Says : Device → List ℕ → Verdict → Type 0
 Says v f (Ok a) = (a.records ≡ count_of f) × (a.steps ≡ w_of (program_of f)) × Not1 f × Not2to4 v f × Not5 f × Not6 f × Not7 f × Not8 f
-Says v f (Err r) = ⊥
-Says v f (Refused (suc zero) k) = (k ≡ 0) × Line1 f
-Says v f (Refused (suc (suc zero)) k) = Not1 f × First2to4 v f k × Line2 (record_at f k)
-Says v f (Refused (suc (suc (suc zero))) k) = Not1 f × First2to4 v f k × (Line2 (record_at f k) → ⊥) × Line3 v (record_at f k)
-Says v f (Refused (suc (suc (suc (suc zero)))) k) =
-    Not1 f × First2to4 v f k × (Line2 (record_at f k) → ⊥) × (Line3 v (record_at f k) → ⊥) × Line4 v (record_at f k)
-Says v f (Refused (suc (suc (suc (suc (suc zero))))) k) = Not1 f × Not2to4 v f × First5 f k
-Says v f (Refused (suc (suc (suc (suc (suc (suc zero)))))) k) = Not1 f × Not2to4 v f × Not5 f × First6 f k
-Says v f (Refused (suc (suc (suc (suc (suc (suc (suc zero))))))) k) = Not1 f × Not2to4 v f × Not5 f × Not6 f × First7 f k
-Says v f (Refused (suc (suc (suc (suc (suc (suc (suc (suc zero)))))))) k) =
-    (k ≡ 0) × Not1 f × Not2to4 v f × Not5 f × Not6 f × Not7 f × Line8 (program_of f)
-Says v f (Refused (suc (suc (suc (suc (suc (suc (suc (suc (suc n))))))))) k) = ⊥
+Says v f (Err r) = By v f r.number r.at
 
 says : {v : Device} {f : List ℕ} {r : Verdict} → Told v f r → Says v f r
 says (told_1 l) = (refl, l)
@@ -98,7 +101,7 @@ module _ (v : Device) (f : List ℕ) where
   pub one_to_eight : (m k : ℕ) → check_for v f ≡ Refused m k → (1 ≤ m) × (m ≤ 8)
   one_to_eight m k e = go m (holds e)
     where
-      go : (m : ℕ) → Says v f (Refused m k) → (1 ≤ m) × (m ≤ 8)
+      go : (m : ℕ) → By v f m k → (1 ≤ m) × (m ≤ 8)
       go zero s = absurd s
       go (suc zero) s = (omega arith, omega arith)
       go (suc (suc zero)) s = (omega arith, omega arith)

@@ -23,12 +23,12 @@ one-first {k = k} {j = j} a b =
 
 -- so what is judged is decided by the line
 pub judged-fine : (m count : ℕ) (line : ℕ → Type 0) (x : Judged) → Judges m count line x → Never count line → x ≡ Fine
-judged-fine m count line Fine j h = refl
-judged-fine m count line (Err r) j h = absurd (h r.at j.1.inside j.1.holds)
+judged-fine m count _ Fine j h = refl
+judged-fine m count _ (Err r) j h = absurd (h r.at j.1.inside j.1.holds)
 
 pub judged-fault : (m count : ℕ) (line : ℕ → Type 0) (k : ℕ) (x : Judged) → Judges m count line x → First count line k → x ≡ Fault m k
-judged-fault m count line k Fine j h = absurd (j k h.inside h.holds)
-judged-fault m count line k (Err r) j h = ap₂ Fault j.0 (one-first j.1 h)
+judged-fault m count _ k Fine j h = absurd (j k h.inside h.holds)
+judged-fault m count _ k (Err r) j h = ap₂ Fault j.0 (one-first j.1 h)
 
 -- ---- a search in record order, record by record
 

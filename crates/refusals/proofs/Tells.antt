@@ -14,14 +14,14 @@ Tells m line (Err r) = (r.number ≡ m) × (r.at ≡ 0) × line
 
 -- by a test that passes where the line does not hold
 pub tells : (t : Bool) (m : ℕ) (line : Type 0) → (t ≡ true → line → ⊥) → (t ≡ false → line) → Tells m line (pick t Fine (Fault m 0))
-tells true m line f g = f refl
-tells false m line f g = (refl, refl, g refl)
+tells true m _ f g = f refl
+tells false m _ f g = (refl, refl, g refl)
 
 -- so the line decides what is told
 pub tells-fine : (m : ℕ) (line : Type 0) (x : Judged) → Tells m line x → (line → ⊥) → x ≡ Fine
-tells-fine m line Fine t h = refl
-tells-fine m line (Err r) t h = absurd (h t.2)
+tells-fine m _ Fine t h = refl
+tells-fine m _ (Err r) t h = absurd (h t.2)
 
 pub tells-fault : (m : ℕ) (line : Type 0) (x : Judged) → Tells m line x → line → x ≡ Fault m 0
-tells-fault m line Fine t h = absurd (t h)
-tells-fault m line (Err r) t h = ap₂ Fault t.0 t.1
+tells-fault m _ Fine t h = absurd (t h)
+tells-fault m _ (Err r) t h = ap₂ Fault t.0 t.1
