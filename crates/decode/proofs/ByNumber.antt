@@ -1,17 +1,15 @@
 -- Loops and jumps see only 19 to 23 of a record's number.
-use Prim.Native.Nat.{ℕ, ◌<◌, ◌≤◌}
+use Prim.Native.Nat.{ℕ, ◌≤◌}
 use mathlib.Core.Bool.{Bool, true, false, not, ◌&&◌, ◌||◌}
-use mathlib.Core.Path.{◌≡◌, refl, sym, ap, subst, ◌∙◌}
+use mathlib.Core.Path.{◌≡◌, refl, sym, subst}
 use native.Mathlib.Omega.{arith}
 use native.Mathlib.Decide.{dec_lt}
 use borrow.Author.Tests.{eqb-true, lt-leb, le-leb}
 use lib.Dec.{leb, eqb}
 use Rattle.ec20.specs.declared.Instr.{Instr}
 use Rattle.ec20.specs.declared.Rec.{Rec}
-use Rattle.ec20.specs.declared.Control.{Control}
 use Rattle.ec20.specs.declared.Control.TheVariants.{Plain, Opens, Closes, Jumps, Marks, Ends}
 use Rattle.ec20.specs.declared.Row.{Row}
-use Rattle.ec20.specs.Basics.{pick}
 use Rattle.ec20.specs.Code.{instr_by, instr_of}
 use Rattle.ec20.specs.Control.{control_of}
 use Rattle.ec20.specs.Table.{table, row_of}

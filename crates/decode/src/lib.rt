@@ -12,6 +12,7 @@ ghost use Rattle.records.specs.Ranges.{Held};
 use ec20::{Control, Instr, Operand, Rec};
 
 // The instruction that a record makes by a form of the table.
+#[tactic(auto, unfolding(ec20::specs::Code::instr_by))]
 fn instr_by(form: u8, r: Rec) -> Instr
     ensures { result ≡ instr_by form r }
 {

@@ -10,20 +10,16 @@ ghost use Rattle.ec20.specs.Roles.{place};
 ghost use Rattle.instructions.specs.Cells.{cells};
 ghost use Rattle.records.specs.Ranges.{Small, SmallRec, Held};
 
-use ec20::{Judged, Operand, Place, Rec, Row};
+use ec20::{Operand, Place, Rec, Refusal, Row};
 
 // How many numbers each kind has: none, constant, X, Y, M, SM, T, D, label. (A constant array would be made anew at each look-up.)
+#[tactic(auto, unfolding(ec20::specs::Devices::limit_of))]
 fn limit(kind: usize) -> usize
     ensures { result ≡ limit_of ec20 kind }
 {
     match kind {
-        0 => 0,
-        1 => 0,
-        2 => 256,
-        3 => 256,
+        2 | 3 | 5 | 6 => 256,
         4 => 2000,
-        5 => 256,
-        6 => 256,
         7 => 8000,
         8 => 128,
         _ => 0,
@@ -251,6 +247,7 @@ fn target_in_work(w: Row, r: Rec) -> bool
 }
 
 // The number that refuses the record by its row: 2, 3, 4, or 0 for none.
+#[tactic(auto, unfolding(ec20::specs::Operands::fault_of, ec20::specs::Operands::is_known))]
 fn fault_of(w: Row, r: Rec) -> usize
     requires { SmallRec r }
     ensures { result ≡ fault_of ec20 w r }
@@ -277,24 +274,27 @@ fn fault_in(rows: &[[u8; 11]; 56], r: Rec) -> usize
 }
 
 // The first of the records that breaks 2, 3 or 4, by the table. No trailer need follow them.
-pub fn first_bad_among(rows: &[[u8; 11]; 56], f: &[u8], first: usize, count: usize) -> Judged
+pub fn first_bad_among(
+    rows: &[[u8; 11]; 56],
+    f: &[u8],
+    first: usize,
+    count: usize,
+) -> Result<(), Refusal>
     requires rows_value { rows.now ≡ cells }
     requires count_in_bounds { first + 20 * count ≤ length f.now }
     ensures { result ≡ first_bad ec20 (records_from f.now first count) }
 {
-    let mut k = 0;
-    while k < count {
+    for k in 0..count {
         let n = fault_in(rows, records::record_from(f, first + 20 * k));
         if n != 0 {
-            return Judged::Fault(n, k);
+            return Err(Refusal { number: n, at: k });
         }
-        k += 1;
     }
-    Judged::Fine
+    Ok(())
 }
 
 // The first of the records that breaks 2, 3 or 4, by the table.
-pub fn first_bad(rows: &[[u8; 11]; 56], f: &[u8], first: usize, count: usize) -> Judged
+pub fn first_bad(rows: &[[u8; 11]; 56], f: &[u8], first: usize, count: usize) -> Result<(), Refusal>
     requires rows_value { rows.now ≡ cells }
     requires held { Held (length f.now) first count }
     ensures { result ≡ first_bad ec20 (records_from f.now first count) }

@@ -1,10 +1,8 @@
 use native.Mathlib.Nat.{sub-zero}
 use borrow.Author.Rules.{rules}
 use mathlib.Core.Path.{sym, ap, ◌∙◌}
-use Prim.Native.Nat.{◌-◌}
 use native.Mathlib.Omega.{arith}
 use Rattle.ec20.specs.Devices.{ec20}
-use Rattle.ec20.specs.File.{record_from}
 use Rattle.ec20.specs.Operands.{fault_in}
 use Rattle.faults.proofs.First.{turn, found, done}
 use Rattle.faults.proofs.first_bad_among.Goals as goal

@@ -10,6 +10,3 @@ use Rattle.faults.proofs.first_bad_among.Given as goal
 abbrev pub invariant-loop-k : goal.invariant-loop-k
 invariant-loop-k l =
     (l.k ≤ l.count) × (first_bad ec20 (records_from l.f l.first l.count) ≡ first_fault (λ (j : ℕ). fault_in ec20 (record_from l.f (l.first + 20 * j))) l.k (l.count - l.k))
-
-abbrev pub decreases-loop-k : goal.decreases-loop-k
-decreases-loop-k l = l.count - l.k
