@@ -8,6 +8,7 @@ use Rattle.ec20.proofs.Ranges.{within-yes, is_within}
 use Rattle.ec20.proofs.Some.{some_at, at_some}
 use Rattle.ec20.proofs.Tests.{both}
 use Rattle.ec20.specs.Check.{check_for}
+use Rattle.ec20.specs.Answers.{told_by_map}
 use Rattle.ec20.specs.Devices.{Device, within}
 use Rattle.ec20.specs.File.{Records, records_of}
 use Rattle.ec20.specs.Operands.{in_d, start_of, extent_of}
@@ -46,26 +47,26 @@ module _ (used : Place → Bool) (i : ℕ) where
 
 -- a device, an accepted file, and a word of D
 module _ (v : Device) (f : List ℕ) (n w : ℕ) (ok : check_for v f ≡ Accepted n w) (i : ℕ) (h : i < 8 * (v.words / 8)) where
-  read_is : marked (map_for v f).read i ≡ marked_read (records_of f) i
+  read_is : marked (told_by_map v (map_for v f)).read i ≡ marked_read (records_of f) i
   unfolding map_for
   read_is = rw ok (map-marked v (marked_read (records_of f)) i h)
 
-  written_is : marked (map_for v f).written i ≡ marked_written (records_of f) i
+  written_is : marked (told_by_map v (map_for v f)).written i ≡ marked_written (records_of f) i
   unfolding map_for
   written_is = rw ok (map-marked v (marked_written (records_of f)) i h)
 
-  pub read-used : marked (map_for v f).read i ≡ true → Uses is_read (records_of f) i
+  pub read-used : marked (told_by_map v (map_for v f)).read i ≡ true → Uses is_read (records_of f) i
   unfolding marked_read
   read-used e = some-uses is_read i (records_of f) (sym read_is ∙ e)
 
-  pub used-read : Uses is_read (records_of f) i → marked (map_for v f).read i ≡ true
+  pub used-read : Uses is_read (records_of f) i → marked (told_by_map v (map_for v f)).read i ≡ true
   unfolding marked_read
   used-read u = read_is ∙ uses-some is_read i (records_of f) u
 
-  pub written-used : marked (map_for v f).written i ≡ true → Uses is_written (records_of f) i
+  pub written-used : marked (told_by_map v (map_for v f)).written i ≡ true → Uses is_written (records_of f) i
   unfolding marked_written
   written-used e = some-uses is_written i (records_of f) (sym written_is ∙ e)
 
-  pub used-written : Uses is_written (records_of f) i → marked (map_for v f).written i ≡ true
+  pub used-written : Uses is_written (records_of f) i → marked (told_by_map v (map_for v f)).written i ≡ true
   unfolding marked_written
   used-written u = written_is ∙ uses-some is_written i (records_of f) u

@@ -10,6 +10,7 @@ use borrow.Author.Tests.{le-ltb, le-leb}
 use Rattle.ec20.specs.declared.Operand.{Operand}
 use Rattle.ec20.specs.declared.Instr.{Instr}
 use Rattle.ec20.specs.Verdict.{Accepted}
+use Rattle.ec20.specs.Answers.{told_by_map}
 use Rattle.ec20.specs.Devices.{ec20, kind_d, within}
 use Rattle.ec20.specs.Bits.{bit_at}
 use Rattle.ec20.specs.Code.{Program, program_of}
@@ -134,7 +135,7 @@ accepted : check_for ec20 (sample 0) ≡ Accepted 5 5
 unfolding computing
 accepted = refl
 
-unmarked : bit_at (map_for ec20 (sample 0)).written 5 ≡ 0
+unmarked : bit_at (told_by_map ec20 (map_for ec20 (sample 0))).written 5 ≡ 0
 unfolding computing
 unmarked = refl
 

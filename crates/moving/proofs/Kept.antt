@@ -11,7 +11,6 @@ use Rattle.std.specs.Prelude.{Err, Ok}
 use Rattle.ec20.specs.declared.Units.{Units}
 use Rattle.ec20.specs.declared.Instr.{Instr}
 use Rattle.ec20.specs.Verdict.{Verdict}
-use Rattle.ec20.specs.Verdict.{Accepted, Refused}
 use Rattle.ec20.specs.Devices.{Device}
 use Rattle.ec20.specs.File.{Records, records_of}
 use Rattle.ec20.specs.Code.{Program, code_of, program_of}
@@ -55,7 +54,7 @@ module _ (v : Device) (i : ℕ) where
       → word_at (scan_if v a p e budget q).plant.mem.d i ≡ word_at q.mem.d i
   unfolding timed_scan
   if-keeps (Ok a) p spared e budget q =
-      picked (λ (a.steps : Scan). word_at a.steps.plant.mem.d i ≡ word_at q.mem.d i) (fitting v e q) _ _
+      picked (λ (s : Scan). word_at s.plant.mem.d i ≡ word_at q.mem.d i) (fitting v e q) _ _
       (λ _. run-kept p spared (units_in e q.rest) budget q.mem)
       (λ _. refl)
   if-keeps (Err r) p spared e budget q = refl

@@ -6,6 +6,7 @@ use mathlib.Core.Path.{◌≡◌, refl, sym, ap, ◌∙◌}
 use native.Mathlib.Omega.{arith}
 use Rattle.ec20.specs.Verdict.{Verdict}
 use Rattle.ec20.specs.Verdict.{Accepted}
+use Rattle.ec20.specs.Answers.{told_by_map}
 use Rattle.ec20.specs.Basics.{one_if}
 use Rattle.ec20.specs.Devices.{Device}
 use Rattle.ec20.specs.Bits.{bit_of, bit_at}
@@ -51,11 +52,11 @@ off false e = refl
 
 -- of a device whose words are a multiple of eight, each has its bit: the map of an accepted file marks written what its records mark written
 module _ (v : Device) (f : List ℕ) (n w : ℕ) (ok : check_for v f ≡ Accepted n w) (i : ℕ) (l : i < 8 * (v.words / 8)) where
-  pub written-bit : bit_at (map_for v f).written i ≡ one_if (marked_written (records_of f) i)
+  pub written-bit : bit_at (told_by_map v (map_for v f)).written i ≡ one_if (marked_written (records_of f) i)
   unfolding map_for
-  written-bit = ap (λ (a : Verdict). bit_at (map_if v a (records_of f)).written i) ok ∙ map-bit v (marked_written (records_of f)) i l
+  written-bit = ap (λ (a : Verdict). bit_at (told_by_map v (map_if v a (records_of f))).written i) ok ∙ map-bit v (marked_written (records_of f)) i l
 
   -- MAP: a word that the use map of an accepted file does not mark written is after a scan what it was, for every device, elapsed time, budget
   -- and memory
-  pub map-kept : bit_at (map_for v f).written i ≡ 0 → (e budget : ℕ) (q : Plant) → word_at (scan_for v f e budget q).plant.mem.d i ≡ word_at q.mem.d i
+  pub map-kept : bit_at (told_by_map v (map_for v f)).written i ≡ 0 → (e budget : ℕ) (q : Plant) → word_at (scan_for v f e budget q).plant.mem.d i ≡ word_at q.mem.d i
   map-kept h e budget q = kept v i f (off (marked_written (records_of f) i) (sym written-bit ∙ h)) e budget q

@@ -8,7 +8,6 @@ use lib.ListN.{length}
 use borrow.Author.Tests.{eqb-true}
 use Rattle.std.specs.Prelude.{Err, Ok}
 use Rattle.ec20.specs.Verdict.{Verdict}
-use Rattle.ec20.specs.Verdict.{Accepted, Refused}
 use Rattle.ec20.specs.Devices.{Device}
 use Rattle.ec20.specs.Code.{Program, program_of}
 use Rattle.ec20.specs.Check.{check_for}

@@ -12,7 +12,7 @@ use Rattle.ec20.specs.declared.Operand.{Operand}
 use Rattle.ec20.specs.declared.Place.{Place}
 use Rattle.ec20.specs.declared.Rec.{Rec}
 use Rattle.ec20.specs.Verdict.{Verdict}
-use Rattle.ec20.specs.Verdict.{Accepted, Refused}
+use Rattle.ec20.specs.Verdict.{Accepted}
 use Rattle.ec20.specs.Devices.{Device, within}
 use Rattle.ec20.specs.Operands.{in_d, start_of, extent_of}
 use Rattle.ec20.specs.Roles.{is_written}
@@ -63,7 +63,7 @@ past-if : (v : Device) (a : Verdict) (p : Program) (i : ℕ) → v.words ≤ i �
     → word_at (scan_if v a p e budget q).plant.mem.d i ≡ word_at q.mem.d i
 unfolding timed_scan
 past-if v (Ok a) p i h e budget q =
-    picked (λ (a.steps : Scan). word_at a.steps.plant.mem.d i ≡ word_at q.mem.d i) (fitting v e q) _ _
+    picked (λ (s : Scan). word_at s.plant.mem.d i ≡ word_at q.mem.d i) (fitting v e q) _ _
     (λ t.
     let u = units_in e q.rest in
     let l : length q.mem.d ≡ v.words = fitting-words v e q t in
