@@ -17,7 +17,7 @@ use Rattle.ec20.specs.Found.{Found}
 use Rattle.ec20.specs.Found.{At, Nowhere}
 use Rattle.ec20.specs.Moved.{To}
 use Rattle.ec20.specs.Verdict.{Verdict}
-use Rattle.ec20.specs.Verdict.{Accepted, Refused as Unfit}
+use Rattle.ec20.specs.Verdict.{Accepted}
 use Rattle.jobs.specs.Job.{refused, by_tasks, task_at, met_by, meet_then, meetings, right_table, answer_after, job_answer}
 use Rattle.jobs.specs.Tasks.{Task, move_by, tasks_meet}
 use Rattle.jobs.specs.Jobbed.{Jobbed}

@@ -18,11 +18,10 @@ use Rattle.ec20.specs.Move.{Move, move, is_place, place_of, judge_move, move_to,
 use Rattle.ec20.specs.Found.{Found}
 use Rattle.ec20.specs.Found.{At, Nowhere}
 use Rattle.ec20.specs.Judged.{Judged}
-use Rattle.ec20.specs.Judged.{Fine, Fault}
+use Rattle.ec20.specs.Judged.{Fine}
 use Rattle.ec20.specs.Moved.{Moved}
 use Rattle.ec20.specs.Moved.{To, Refused as NotMoved}
 use Rattle.ec20.specs.Verdict.{Verdict}
-use Rattle.ec20.specs.Verdict.{Accepted, Refused as Unfit}
 use Rattle.jobs.specs.Job.{task_then, by_tasks, task_at, met_by, meet_then, meetings}
 use Rattle.jobs.specs.Tasks.{Task, pool_of, move_by, task_of, tasks_of, tasks_meet}
 use Rattle.jobs.specs.Jobbed.{Jobbed}

@@ -1,6 +1,6 @@
 -- What comes of a job over a program file and a D table: a list of tasks (ours). In this order: 16, over 64 tasks; 1 to 8 of the file; 9 of the table;
 -- task by task what the move by it, on the file as it is lent, refuses; 14 where two tasks meet. "A refused call leaves all lent memory unchanged".
-use Rattle.std.specs.Prelude.{ℕ, zero, suc, ◌+◌, Bool, ◌||◌, List, [], ◌∷◌, leb, eqb, ℤ, length, get_or, Err, Ok}
+use Rattle.std.specs.Prelude.{ℕ, zero, suc, Bool, ◌||◌, List, [], ◌∷◌, leb, eqb, ℤ, length, get_or, Err, Ok}
 use Rattle.ec20.specs.Basics.{pick, first_at}
 use Rattle.ec20.specs.Check.{check_for}
 use Rattle.ec20.specs.Devices.{Device, ec20}
@@ -8,9 +8,8 @@ use Rattle.ec20.specs.Move.{block}
 use Rattle.ec20.specs.Found.{Found}
 use Rattle.ec20.specs.Found.{At, Nowhere}
 use Rattle.ec20.specs.Moved.{Moved}
-use Rattle.ec20.specs.Moved.{To, Refused as NotMoved}
+use Rattle.ec20.specs.Moved.{To}
 use Rattle.ec20.specs.Verdict.{Verdict}
-use Rattle.ec20.specs.Verdict.{Accepted, Refused as Unfit}
 use Rattle.jobs.specs.Tasks.{Task, task, move_by, tasks_meet, moved_by, exchanged_by}
 use Rattle.jobs.specs.Jobbed.{Jobbed}
 use Rattle.jobs.specs.Jobbed.{Refused, Done}
@@ -22,7 +21,7 @@ refused m k = Refused m k 0 0
 -- task i is refused as its move is; else comes what the rest says
 abbrev pub task_then : ℕ → Moved → Jobbed → Jobbed
 task_then i (To q) rest = rest
-task_then i (Err r) rest = Err r i i
+task_then i (Err r) rest = Refused r.number r.at i i
 
 -- "line by line the refusal that `move` on the original gives": of the tasks, the first of which is number i; else what comes then
 unfoldable pub by_tasks : Device → List ℕ → ℕ → List Task → Jobbed → Jobbed

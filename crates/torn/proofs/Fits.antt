@@ -11,6 +11,7 @@ use Rattle.ec20.specs.Basics.{pick}
 use Rattle.ec20.specs.Buffer.{sent}
 use Rattle.ec20.specs.Devices.{ec20}
 use Rattle.torn.specs.Salvage.{records_in, size_for, file_with, rest_of, Salvage, saved, kept_in, salvage_for, salvage_of}
+use Rattle.torn.proofs.Parts.{done-parts}
 use Rattle.torn.specs.Salvaged.{Salvaged}
 use Rattle.torn.specs.Salvaged.{Refused, Done}
 
@@ -18,7 +19,7 @@ use Rattle.torn.specs.Salvaged.{Refused, Done}
 by_tests : (x y : Bool) (c a q n m r : ℕ) (f b : List ℕ)
     → (pick x (pick y (saved (Done c a q) f) (saved (Refused 16 0) b)) (saved (Refused 1 0) b)).answer ≡ Done n m r
     → (x ≡ true) × (y ≡ true) × (c ≡ n) × (a ≡ m)
-by_tests true true c a q n m r f b e = (refl, refl, cc, cc)
+by_tests true true c a q n m r f b e = let p = done-parts c a q n m r e in (refl, refl, p.0, p.1)
 by_tests true false c a q n m r f b e = let z : ◌≡◌ {A = ℕ} 0 1 = cc in absurd (omega arith)
 by_tests false y c a q n m r f b e = let z : ◌≡◌ {A = ℕ} 0 1 = cc in absurd (omega arith)
 
