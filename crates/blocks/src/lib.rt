@@ -2,13 +2,12 @@
 #![tactic(auto)]
 
 ghost use Rattle.std.specs.Prelude.{◌<◌, ◌^◌, ◌≡◌};
-ghost use Rattle.ec20.specs.Basics.{then as thenOf};
 ghost use Rattle.ec20.specs.Devices.{ec20};
 ghost use Rattle.ec20.specs.Devices.{within as withinOf, meets as meetsOf, inside as insideOf};
 ghost use Rattle.ec20.specs.Exchange.{place_fault};
 ghost use Rattle.ec20.specs.Move.{block, pool, block_fault, pool_fault, block_work};
 
-use ec20::Judged;
+use ec20::Refusal;
 
 // Number i is one of the n from a on.
 pub fn within(a: usize, n: usize, i: usize) -> bool
@@ -35,39 +34,42 @@ pub fn inside(a: usize, n: usize, b: usize, m: usize) -> bool
 }
 
 // 10: the block is empty, or not inside D.
-pub fn block_fault(start: usize, length: usize) -> Judged
+pub fn block_fault(start: usize, length: usize) -> Result<(), Refusal>
     requires { (start < 2 ^ 32) × (length < 2 ^ 32) }
     ensures { result ≡ block_fault ec20 (block start length) }
 {
     if (0 < length) & (start + length <= 8000) {
-        return Judged::Fine;
+        Ok(())
+    } else {
+        Err(Refusal { number: 10, at: 0 })
     }
-    Judged::Fault(10, 0)
 }
 
 // 11: the pool's start is above its end, or its end above 8000.
-pub fn pool_fault(start: usize, end: usize) -> Judged
+pub fn pool_fault(start: usize, end: usize) -> Result<(), Refusal>
     ensures { result ≡ pool_fault ec20 (pool start end) }
 {
     if (start <= end) & (end <= 8000) {
-        return Judged::Fine;
+        Ok(())
+    } else {
+        Err(Refusal { number: 11, at: 0 })
     }
-    Judged::Fault(11, 0)
 }
 
 // 12: the block meets WORK.
-pub fn block_work(start: usize, length: usize) -> Judged
+pub fn block_work(start: usize, length: usize) -> Result<(), Refusal>
     requires { (start < 2 ^ 32) × (length < 2 ^ 32) }
     ensures { result ≡ block_work ec20 (block start length) }
 {
     if faults::meets_work(start, length) {
-        return Judged::Fault(12, 0);
+        Err(Refusal { number: 12, at: 0 })
+    } else {
+        Ok(())
     }
-    Judged::Fine
 }
 
 // 14, of the exchange: the place is not inside D, meets the block or meets WORK.
-pub fn place_fault(start: usize, length: usize, place: usize) -> Judged
+pub fn place_fault(start: usize, length: usize, place: usize) -> Result<(), Refusal>
     requires { (start < 2 ^ 32) × (length < 2 ^ 32) × (place < 2 ^ 32) }
     ensures { result ≡ place_fault ec20 (block start length) place }
 {
@@ -75,17 +77,8 @@ pub fn place_fault(start: usize, length: usize, place: usize) -> Judged
         & !meets(place, length, start, length)
         & !faults::meets_work(place, length)
     {
-        return Judged::Fine;
-    }
-    Judged::Fault(14, 0)
-}
-
-// The first judgement, or the second where the first finds no fault.
-pub fn then(a: Judged, b: Judged) -> Judged
-    ensures { result ≡ thenOf a b }
-{
-    match a {
-        Judged::Fine => b,
-        Judged::Fault(n, k) => Judged::Fault(n, k),
+        Ok(())
+    } else {
+        Err(Refusal { number: 14, at: 0 })
     }
 }

@@ -8,6 +8,7 @@ ghost use Rattle.ec20.specs.Operands.{in_d, start_of, extent_of};
 use ec20::{Operand, Place};
 
 // The operand names words in D.
+#[tactic(auto, unfolding(ec20::specs::Operands::in_d))]
 pub fn in_d(o: Operand) -> bool
     ensures { result ≡ in_d o }
 {
@@ -15,6 +16,7 @@ pub fn in_d(o: Operand) -> bool
 }
 
 // The first of them.
+#[tactic(auto, unfolding(ec20::specs::Operands::start_of))]
 pub fn start(o: Operand) -> usize
     ensures value { result ≡ start_of o }
     ensures upper_bound { result ≤ o.value }
@@ -23,9 +25,10 @@ pub fn start(o: Operand) -> usize
 }
 
 // How many there are at this place.
+#[tactic(auto, unfolding(ec20::specs::Operands::extent_of))]
 pub fn length(p: Place, o: Operand) -> usize
     ensures value { result ≡ extent_of p o }
     ensures upper_bound { result < 256 }
 {
-    p.extent as usize
+    usize::from(p.extent)
 }
