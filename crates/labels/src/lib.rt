@@ -15,7 +15,7 @@ ghost use Rattle.labels.specs.Sound.{Sound};
 ghost use Rattle.labels.specs.Want.{want_of};
 ghost use Rattle.records.specs.Ranges.{Held};
 
-use ec20::{Control, Found, Judged, Turn};
+use ec20::{Control, Refusal, Turn};
 
 // What a search looks for: the NEXT that closes a loop, or the LBL of a label.
 #[derive(Clone, Copy)]
@@ -25,20 +25,15 @@ pub enum Want {
 }
 
 // Does the record set the label l?
+#[tactic(auto, unfolding(ec20::specs::Control::marks))]
 fn sets(i: Control, l: usize) -> bool
     ensures { result ≡ marks l i }
 {
-    match i {
-        Control::Plain => false,
-        Control::Opens(_) => false,
-        Control::Closes => false,
-        Control::Jumps(_) => false,
-        Control::Marks(m) => m == l,
-        Control::Ends => false,
-    }
+    matches!(i, Control::Marks(m) if m == l)
 }
 
 // A NEXT, d deep: it ends a loop inside the body searched, or the body, and with it the search.
+#[tactic(auto, unfolding(ec20::specs::Walkers::turn_of, ec20::specs::Walkers::shift_of, ec20::specs::Control::closes, ec20::specs::Control::marks))]
 fn next_turn(w: Want, d: usize) -> Turn
     ensures { result ≡ turn_of (want_of w Closes) Closes d }
 {
@@ -52,6 +47,7 @@ fn next_turn(w: Want, d: usize) -> Turn
 }
 
 // An LBL of the label m, d deep: it counts only directly in the body, in no loop inside it.
+#[tactic(auto, unfolding(ec20::specs::Walkers::turn_of, ec20::specs::Walkers::shift_of, ec20::specs::Control::closes, ec20::specs::Control::marks))]
 fn label_turn(m: usize, w: Want, d: usize) -> Turn
     ensures { result ≡ turn_of (want_of w (Marks m)) (Marks m) d }
 {
@@ -65,83 +61,57 @@ fn label_turn(m: usize, w: Want, d: usize) -> Turn
 }
 
 // What a record does to a search that is d deep in loops inside the body. One `match`, so that a record is told apart once.
+#[tactic(auto, unfolding(ec20::specs::Walkers::turn_of, ec20::specs::Walkers::shift_of, ec20::specs::Control::closes, ec20::specs::Control::marks))]
 fn turn(i: Control, w: Want, d: usize) -> Turn
     requires { d + 1 < 2 ^ 64 }
     ensures { result ≡ turn_of (want_of w i) i d }
 {
     match i {
-        Control::Plain => Turn::On(d),
         Control::Opens(_) => Turn::On(d + 1),
         Control::Closes => next_turn(w, d),
-        Control::Jumps(_) => Turn::On(d),
         Control::Marks(m) => label_turn(m, w, d),
-        Control::Ends => Turn::On(d),
+        Control::Plain | Control::Jumps(_) | Control::Ends => Turn::On(d),
     }
 }
 
 // The first wanted record from record `from` on that stands directly in the body there.
-pub fn find(f: &[u8], first: usize, count: usize, from: usize, w: Want) -> Found
+pub fn find(f: &[u8], first: usize, count: usize, from: usize, w: Want) -> Option<usize>
     requires { Held (length f.now) first count }
     ensures { result ≡ found_in_body (controls_of (program_in (records_from f.now first count))) count (want_of w) 0 from }
 {
-    let mut k = from;
     let mut d: usize = 0;
-    while k < count {
+    for k in from..count {
         match turn(decode::control_at(f, first, count, k), w, d) {
-            Turn::Hit => return Found::At(k),
-            Turn::Stop => return Found::Nowhere,
-            Turn::On(e) => {
-                d = e;
-            }
+            Turn::Hit => return Some(k),
+            Turn::Stop => return None,
+            Turn::On(e) => d = e,
         }
-        k += 1;
     }
-    Found::Nowhere
+    None
 }
 
 // A label's place: its first LBL.
-fn label(f: &[u8], first: usize, count: usize, l: usize) -> Found
+fn label(f: &[u8], first: usize, count: usize, l: usize) -> Option<usize>
     requires { Held (length f.now) first count }
     ensures { result ≡ first_label (controls_of (program_in (records_from f.now first count))) count l }
 {
-    let mut k = 0;
-    while k < count {
+    for k in 0..count {
         if sets(decode::control_at(f, first, count, k), l) {
-            return Found::At(k);
+            return Some(k);
         }
-        k += 1;
     }
-    Found::Nowhere
-}
-
-// Both were found, and at the same record.
-fn alike(a: Found, b: Found) -> bool
-    ensures { result ≡ same a b }
-{
-    match a {
-        Found::At(t) => match b {
-            Found::At(u) => t == u,
-            Found::Nowhere => false,
-        },
-        Found::Nowhere => match b {
-            Found::At(_) => false,
-            Found::Nowhere => false,
-        },
-    }
+    None
 }
 
 // The label that record k sets, and 128, which is no label, where it sets none.
+#[tactic(auto, unfolding(ec20::specs::Control::marks))]
 fn slot(f: &[u8], first: usize, count: usize, k: usize) -> usize
     requires { Held (length f.now) first count }
     ensures { (l : ℕ) → l < 128 → marks l ((controls_of (program_in (records_from f.now first count))) k) ≡ eqb result l }
 {
     match decode::control_at(f, first, count, k) {
-        Control::Plain => 128,
-        Control::Opens(_) => 128,
-        Control::Closes => 128,
-        Control::Jumps(_) => 128,
         Control::Marks(l) => l,
-        Control::Ends => 128,
+        _ => 128,
     }
 }
 
@@ -151,20 +121,17 @@ pub fn places(f: &[u8], first: usize, count: usize) -> [usize; 128]
     ensures { Places (controls_of (program_in (records_from f.now first count))) count result }
 {
     let mut table = [0usize; 128];
-    let mut k = count;
-    while 0 < k {
-        let j = k - 1;
+    for j in (0..count).rev() {
         let s = slot(f, first, count, j);
         if s < 128 {
-            table[s] = k;
+            table[s] = j + 1;
         }
-        k = j;
     }
     table
 }
 
 // A label's place: that of the first 128 is looked up, any other's is searched.
-pub fn place(f: &[u8], first: usize, count: usize, table: &[usize; 128], l: usize) -> Found
+pub fn place(f: &[u8], first: usize, count: usize, table: &[usize; 128], l: usize) -> Option<usize>
     requires held { Held (length f.now) first count }
     requires places { Places (controls_of (program_in (records_from f.now first count))) count table.now }
     ensures { result ≡ first_label (controls_of (program_in (records_from f.now first count))) count l }
@@ -172,21 +139,21 @@ pub fn place(f: &[u8], first: usize, count: usize, table: &[usize; 128], l: usiz
     if l < 128 {
         let t = table[l];
         if t == 0 {
-            return Found::Nowhere;
+            return None;
         }
-        return Found::At(t - 1);
+        return Some(t - 1);
     }
     label(f, first, count, l)
 }
 
 // The loop body that the record after record k stands in directly: the FOR's own after a FOR, the one around it after its NEXT.
+#[tactic(auto, unfolding(crate::specs::Homes::home_after, crate::specs::Homes::home_around))]
 fn home_after(i: Control, k: usize, home: u16, table: &[u16; 2000]) -> u16
     requires k_bound { k < 2000 }
     requires home_bound { home ≤ 2000 }
     ensures { result ≡ home_after i k home table.now }
 {
     match i {
-        Control::Plain => home,
         Control::Opens(_) => k as u16 + 1,
         Control::Closes => {
             if home == 0 {
@@ -195,9 +162,7 @@ fn home_after(i: Control, k: usize, home: u16, table: &[u16; 2000]) -> u16
                 table[home as usize - 1]
             }
         }
-        Control::Jumps(_) => home,
-        Control::Marks(_) => home,
-        Control::Ends => home,
+        _ => home,
     }
 }
 
@@ -208,11 +173,9 @@ fn homes(f: &[u8], first: usize, count: usize) -> [u16; 2000]
 {
     let mut table = [0u16; 2000];
     let mut home: u16 = 0;
-    let mut k = 0;
-    while k < count {
+    for k in 0..count {
         table[k] = home;
         home = home_after(decode::control_at(f, first, count, k), k, home, &table);
-        k += 1;
     }
     table
 }
@@ -236,21 +199,23 @@ fn misplaced(
     ensures { result ≡ label_fault (controls_of (program_in (records_from f.now first count))) count k (Jumps l) }
 {
     match place(f, first, count, table, l) {
-        Found::At(t) => { if k < t { homes[t] != homes[k] } else { true } }
-        Found::Nowhere => true,
+        Some(t) => { if k < t { homes[t] != homes[k] } else { true } }
+        None => true,
     }
 }
 
 // A label set twice: the later LBL is not the first of its label.
+#[tactic(auto, unfolding(ec20::specs::Labels::label_fault, ec20::specs::Labels::same))]
 fn set_twice(f: &[u8], first: usize, count: usize, table: &[usize; 128], k: usize, l: usize) -> bool
     requires held { Held (length f.now) first count }
     requires places { Places (controls_of (program_in (records_from f.now first count))) count table.now }
     ensures { result ≡ label_fault (controls_of (program_in (records_from f.now first count))) count k (Marks l) }
 {
-    !alike(place(f, first, count, table, l), Found::At(k))
+    place(f, first, count, table, l) != Some(k)
 }
 
 // Does record k set a label twice, or jump to one that doesn't stand where it must?
+#[tactic(auto, unfolding(ec20::specs::Labels::label_fault))]
 fn label_fault(
     f: &[u8],
     first: usize,
@@ -267,27 +232,21 @@ fn label_fault(
     ensures { result ≡ label_fault (controls_of (program_in (records_from f.now first count))) count k (controls_of (program_in (records_from f.now first count)) k) }
 {
     match decode::control_at(f, first, count, k) {
-        Control::Plain => false,
-        Control::Opens(_) => false,
-        Control::Closes => false,
         Control::Jumps(l) => misplaced(f, first, count, table, homes, k, l),
         Control::Marks(l) => set_twice(f, first, count, table, k, l),
-        Control::Ends => false,
+        _ => false,
     }
 }
 
 // Does record k set a label or jump to one? Any other is not refused.
+#[tactic(auto, unfolding(ec20::specs::Labels::label_fault))]
 fn labelled(f: &[u8], first: usize, count: usize, k: usize) -> bool
     requires { Held (length f.now) first count }
     ensures { result ≡ false → false ≡ label_fault (controls_of (program_in (records_from f.now first count))) count k ((controls_of (program_in (records_from f.now first count))) k) }
 {
     match decode::control_at(f, first, count, k) {
-        Control::Plain => false,
-        Control::Opens(_) => false,
-        Control::Closes => false,
-        Control::Jumps(_) => true,
-        Control::Marks(_) => true,
-        Control::Ends => false,
+        Control::Jumps(_) | Control::Marks(_) => true,
+        _ => false,
     }
 }
 
@@ -296,14 +255,12 @@ fn first_labelled(f: &[u8], first: usize, count: usize) -> usize
     requires { Held (length f.now) first count }
     ensures { first_unlabelled (controls_of (program_in (records_from f.now first count))) count ≡ refused_at 7 (first_at (λ j. label_fault (controls_of (program_in (records_from f.now first count))) count j ((controls_of (program_in (records_from f.now first count))) j)) result (count - result)) }
 {
-    let mut k = 0;
-    while k < count {
+    for k in 0..count {
         if labelled(f, first, count, k) {
             return k;
         }
-        k += 1;
     }
-    k
+    count
 }
 
 // The first record from `from` on that is refused, the labels' places and the records' loop bodies being known.
@@ -314,26 +271,24 @@ fn first_from(
     table: &[usize; 128],
     homes: &[u16; 2000],
     from: usize,
-) -> Judged
+) -> Result<(), Refusal>
     requires held { Held (length f.now) first count }
     requires places { Places (controls_of (program_in (records_from f.now first count))) count table.now }
     requires homes { Homes (controls_of (program_in (records_from f.now first count))) count homes.now }
     requires sound { Sound (controls_of (program_in (records_from f.now first count))) count }
     ensures { result ≡ refused_at 7 (first_at (λ j. label_fault (controls_of (program_in (records_from f.now first count))) count j ((controls_of (program_in (records_from f.now first count))) j)) from (count - from)) }
 {
-    let mut k = from;
-    while k < count {
+    for k in from..count {
         if label_fault(f, first, count, table, homes, k) {
-            return Judged::Fault(7, k);
+            return Err(Refusal { number: 7, at: k });
         }
-        k += 1;
     }
-    Judged::Fine
+    Ok(())
 }
 
 // The first such record, of a program that 6 does not refuse. The places of the labels, and the loop body of each record, are looked for only
 // where a record sets a label or jumps to one.
-pub fn first_unlabelled(f: &[u8], first: usize, count: usize) -> Judged
+pub fn first_unlabelled(f: &[u8], first: usize, count: usize) -> Result<(), Refusal>
     requires held { Held (length f.now) first count }
     requires sound { Sound (controls_of (program_in (records_from f.now first count))) count }
     ensures { result ≡ first_unlabelled (controls_of (program_in (records_from f.now first count))) count }
@@ -344,5 +299,5 @@ pub fn first_unlabelled(f: &[u8], first: usize, count: usize) -> Judged
         let bodies = homes(f, first, count);
         return first_from(f, first, count, &table, &bodies, from);
     }
-    Judged::Fine
+    Ok(())
 }

@@ -1,7 +1,6 @@
 use borrow.Author.Rules.{rules}
 use mathlib.Core.Path.{refl, sym, ◌∙◌}
 use native.Mathlib.Omega.{arith}
-use Prim.Native.Nat.{◌-◌}
 use Rattle.labels.proofs.Laws.{hit, stop, on, over, near}
 use Rattle.labels.proofs.find.Goals as goal
 

@@ -1,8 +1,6 @@
 use borrow.Author.Rules.{rules}
 use mathlib.Core.Path.{refl, sym, ap, ◌∙◌}
-use Prim.Native.Nat.{◌-◌}
 use Rattle.ec20.specs.Basics.{refused_at}
-use Rattle.ec20.specs.Labels.{label_fault}
 use Rattle.labels.proofs.Laws.{passes, fails, none}
 use Rattle.labels.proofs.first_from.Goals as goal
 

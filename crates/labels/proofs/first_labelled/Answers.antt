@@ -1,9 +1,9 @@
 use borrow.Author.Rules.{rules}
-use mathlib.Core.Path.{refl, ap, ◌∙◌}
+use mathlib.Core.Path.{refl, sym, ap, ◌∙◌}
 use native.Mathlib.Nat.{sub-zero}
-use Prim.Native.Nat.{◌-◌}
+use native.Mathlib.Omega.{arith}
 use Rattle.ec20.specs.Basics.{refused_at}
-use Rattle.labels.proofs.Laws.{fails}
+use Rattle.labels.proofs.Laws.{fails, none}
 use Rattle.labels.proofs.first_labelled.Goals as goal
 
 pub loop-k-init : goal.loop-k-init
@@ -18,4 +18,6 @@ loop-k-preserved c =
     l.invariant ∙ ap (refused_at 7) (fails _ l.k _ (search rules) (c.labelled.ensures c.if-labelled.false) refl)
 
 pub returns : goal.returns
-returns c = c.loop-k.invariant
+returns c =
+    let l = c.loop-k in
+    l.invariant ∙ ap (refused_at 7) (sym (none _ l.k _ (search rules)) ∙ none _ c.args.count _ (omega arith))

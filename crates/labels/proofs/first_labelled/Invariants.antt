@@ -10,6 +10,3 @@ use Rattle.labels.proofs.first_labelled.Given as goal
 abbrev pub invariant-loop-k : goal.invariant-loop-k
 invariant-loop-k l =
     first_unlabelled (controls_of (program_in (records_from l.f l.first l.count))) l.count ≡ refused_at 7 (first_at (λ j. label_fault (controls_of (program_in (records_from l.f l.first l.count))) l.count j ((controls_of (program_in (records_from l.f l.first l.count))) j)) l.k (l.count - l.k))
-
-abbrev pub decreases-loop-k : goal.decreases-loop-k
-decreases-loop-k l = l.count - l.k

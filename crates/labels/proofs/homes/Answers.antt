@@ -1,5 +1,5 @@
 use native.Mathlib.Omega.{arith}
-use Prim.Native.Nat.{◌-◌, ◌<◌}
+use Prim.Native.Nat.{◌<◌}
 use Rattle.labels.proofs.Bodies.{filled_none, home-low, filled_more, filled-all}
 use Rattle.labels.proofs.homes.Goals as goal
 

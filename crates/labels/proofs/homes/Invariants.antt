@@ -1,5 +1,4 @@
 -- The loop's invariant: the loop bodies of the first k records are told, and home is that of record k.
-use Prim.Native.Nat.{◌-◌}
 use Rattle.ec20.specs.Code.{program_in}
 use Rattle.ec20.specs.Control.{controls_of}
 use Rattle.ec20.specs.File.{records_from}
@@ -8,6 +7,3 @@ use Rattle.labels.proofs.homes.Given as goal
 
 abbrev pub invariant-loop-k : goal.invariant-loop-k
 invariant-loop-k l = Filled (controls_of (program_in (records_from l.f l.first l.count))) l.k l.home l.table
-
-abbrev pub decreases-loop-k : goal.decreases-loop-k
-decreases-loop-k l = l.count - l.k

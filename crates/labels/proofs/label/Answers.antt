@@ -1,7 +1,6 @@
 use borrow.Author.Rules.{rules}
 use mathlib.Core.Path.{sym, ◌∙◌}
 use native.Mathlib.Nat.{sub-zero}
-use Prim.Native.Nat.{◌-◌}
 use Rattle.labels.proofs.Laws.{passes, fails, none}
 use Rattle.labels.proofs.label.Goals as goal
 

@@ -10,6 +10,3 @@ use Rattle.labels.proofs.label.Given as goal
 abbrev pub invariant-loop-k : goal.invariant-loop-k
 invariant-loop-k l =
     first_label (controls_of (program_in (records_from l.f l.first l.count))) l.count l.l ≡ first_at (λ j. marks l.l (controls_of (program_in (records_from l.f l.first l.count)) j)) l.k (l.count - l.k)
-
-abbrev pub decreases-loop-k : goal.decreases-loop-k
-decreases-loop-k l = l.count - l.k

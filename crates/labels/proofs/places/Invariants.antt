@@ -4,8 +4,5 @@ use Rattle.ec20.specs.File.{records_from}
 use Rattle.labels.proofs.Table.{Filled}
 use Rattle.labels.proofs.places.Given as goal
 
-abbrev pub invariant-loop-k : goal.invariant-loop-k
-invariant-loop-k l = Filled (controls_of (program_in (records_from l.f l.first l.count))) l.count l.k l.table
-
-abbrev pub decreases-loop-k : goal.decreases-loop-k
-decreases-loop-k l = l.k
+abbrev pub invariant-loop-j : goal.invariant-loop-j
+invariant-loop-j l = Filled (controls_of (program_in (records_from l.f l.first l.count))) l.count l.j l.table
