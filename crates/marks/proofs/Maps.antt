@@ -13,11 +13,12 @@ use borrow.Author.Tests.{le-leb, lt-leb, lt-ltb, le-ltb, eq-eqb, ne_eqb}
 use Rattle.ec20.proofs.MovedLaws.{get_d-from, length_from}
 use Rattle.ec20.proofs.Ranges.{within-no}
 use Rattle.ec20.proofs.Tests.{or_right}
+use Rattle.ec20.specs.Answers.{blank_map}
 use Rattle.ec20.specs.Basics.{pick, one_if}
 use Rattle.ec20.specs.Bits.{bit_of, bit_at, byte_with, with_bit}
 use Rattle.ec20.specs.Devices.{Device, within}
 use Rattle.ec20.specs.Operands.{in_d, start_of, extent_of}
-use Rattle.ec20.specs.UseMap.{packed_by, map_of, blank_map, holds}
+use Rattle.ec20.specs.UseMap.{packed_by, map_of, holds}
 use Rattle.ec20.specs.declared.Operand.{Operand}
 use Rattle.ec20.specs.declared.Place.{Place}
 use Rattle.marks.specs.Marked.{marked, marking, marking_held}
@@ -55,16 +56,6 @@ one-is true = refl
 one-is false = refl
 
 -- ---- the map
-
--- an operand with words in D, and one with none
-module _ (m : List ℕ) (p : Place) (o : Operand) {b : Bool} (d : b ≡ in_d o) where
-  pub held-some : {a n : ℕ} {y : List ℕ} → b ≡ true → a ≡ start_of o → n ≡ extent_of p o → y ≡ marking m a n → y ≡ marking_held m p o
-  unfolding marking_held
-  held-some k e f g = g ∙ rw (sym d, k, e, f) refl
-
-  pub held_none : b ≡ false → m ≡ marking_held m p o
-  unfolding marking_held
-  held_none k = rw (sym d, k) refl
 
 -- one word more is marked
 pub marking-more : (m : List ℕ) (a k : ℕ) {x y : List ℕ} → x ≡ marking m a k → y ≡ with_bit x (a + k) 1 → y ≡ marking m a (k + 1)

@@ -1,15 +1,16 @@
 -- A walk over records that marks words: each operand widens the map, and each record passed. Assumes nothing.
 use Prim.Native.Nat.{ℕ, zero, suc, ◌+◌, ◌<◌, ◌≤◌}
-use mathlib.Core.Bool.{Bool, true, false, ◌&&◌, ◌||◌, or_assoc, or-false}
+use mathlib.Core.Bool.{Bool, false, ◌||◌, or_assoc, or-false}
 use mathlib.Core.List.{List}
 use mathlib.Core.Path.{◌≡◌, refl, sym, ap, fun_ext, ◌∙◌}
 use native.Mathlib.Numerals.{add-one}
 use native.Mathlib.Omega.{arith}
-use Rattle.ec20.specs.Basics.{pick, some_from}
+use Rattle.ec20.specs.Answers.{blank_map}
+use Rattle.ec20.specs.Basics.{some_from}
 use Rattle.ec20.specs.Devices.{Device}
 use Rattle.ec20.specs.File.{Records}
 use Rattle.ec20.specs.Table.{row_of}
-use Rattle.ec20.specs.UseMap.{map_of, blank_map, holds, some_operand, record_has, some_record}
+use Rattle.ec20.specs.UseMap.{map_of, holds, some_operand, record_has, some_record}
 use Rattle.ec20.specs.declared.Operand.{Operand}
 use Rattle.ec20.specs.declared.Place.{Place}
 use Rattle.ec20.specs.declared.Rec.{Rec}

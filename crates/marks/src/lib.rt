@@ -8,6 +8,7 @@ ghost use Rattle.marks.specs.Marked.{marked, marking, marking_held};
 use ec20::{Operand, Place};
 
 // Word i is marked.
+#[tactic(auto, unfolding(crate::specs::Marked::marked))]
 pub fn is_marked(map: &[u8; 1000], i: usize) -> bool
     ensures { result ≡ marked map.now i }
 {
@@ -19,14 +20,13 @@ fn mark(map: &mut [u8; 1000], start: usize, extent: usize)
     requires { start + extent < 2 ^ 64 }
     ensures { map.new ≡ marking map.old start extent }
 {
-    let mut k = 0;
-    while k < extent {
+    for k in 0..extent {
         bits::put_bit(map, start + k, 1);
-        k += 1;
     }
 }
 
 // The words that the operand's extent at this place holds are marked: it holds some only if it names words in D.
+#[tactic(auto, unfolding(crate::specs::Marked::marking_held))]
 pub fn mark_held(map: &mut [u8; 1000], p: Place, o: Operand)
     requires { o.value < 2 ^ 32 }
     ensures { map.new ≡ marking_held map.old p o }
