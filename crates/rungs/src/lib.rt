@@ -10,7 +10,7 @@ ghost use Rattle.instructions.specs.Cells.{cells};
 ghost use Rattle.records.specs.Ranges.{Held};
 ghost use Rattle.rungs.specs.Within.{Within};
 
-use ec20::{Instr, Judged, Rung};
+use ec20::{Instr, Refusal, Rung};
 
 // LD and LDI, of the contacts.
 fn is_load(n: usize) -> bool
@@ -34,6 +34,7 @@ fn both_empty(s: Rung) -> bool
 }
 
 // A starting LD needs both stacks empty; any other pushes on the block stack, which holds 8.
+#[tactic(auto, unfolding(ec20::specs::Rung::load_ok))]
 fn load_ok(s: Rung) -> bool
     ensures { result ≡ load_ok s }
 {
@@ -44,6 +45,7 @@ fn load_ok(s: Rung) -> bool
 }
 
 // Actions, MPS, MRD and MPP need flow, and the block stack empty.
+#[tactic(auto, unfolding(ec20::specs::Rung::action_ok))]
 fn action_ok(s: Rung) -> bool
     ensures { result ≡ action_ok s }
 {
@@ -51,6 +53,7 @@ fn action_ok(s: Rung) -> bool
 }
 
 // MPS pushes on the branch stack, which holds 8; MRD and MPP need an entry.
+#[tactic(auto, unfolding(ec20::specs::Rung::branch_ok))]
 fn branch_ok(n: usize, s: Rung) -> bool
     ensures { result ≡ branch_ok n s }
 {
@@ -85,34 +88,20 @@ fn jump_ok(s: Rung) -> bool
 }
 
 // Does the record keep the rule, in the state s?
+#[tactic(auto, unfolding(ec20::specs::Rung::keeps))]
 fn keeps(i: Instr, s: Rung) -> bool
     ensures { result ≡ keeps i s }
 {
     match i {
         Instr::Nop => true,
         Instr::Contact(n, _) => contact_ok(n, s),
-        Instr::Compare(_, _, _) => load_ok(s),
+        Instr::Compare(..) => load_ok(s),
         Instr::Join(_) => join_ok(s),
         Instr::Branch(n) => branch_ok(n, s),
-        Instr::Coil(_, _) => action_ok(s),
-        Instr::Timer(_, _) => action_ok(s),
-        Instr::For(_) => both_empty(s),
-        Instr::Next => both_empty(s),
+        Instr::Coil(..) | Instr::Timer(..) | Instr::Word(..) => action_ok(s),
         Instr::Jump(_) => jump_ok(s),
-        Instr::Label(_) => both_empty(s),
-        Instr::End => both_empty(s),
-        Instr::Word(_, _, _, _) => action_ok(s),
+        Instr::For(_) | Instr::Next | Instr::Label(_) | Instr::End => both_empty(s),
     }
-}
-
-// One entry less.
-fn one_less(n: usize) -> usize
-    ensures { result ≡ n - 1 }
-{
-    if n == 0 {
-        return 0;
-    }
-    n - 1
 }
 
 // A starting LD leaves the block stack as it is; any other pushes the flow on it.
@@ -127,6 +116,7 @@ fn blocks_loaded(s: Rung) -> usize
 }
 
 // After an LD there is flow, and the last instruction is no action.
+#[tactic(auto, unfolding(ec20::specs::Rung::after_load))]
 fn after_load(s: Rung) -> Rung
     requires { Within s }
     ensures { result ≡ after_load s }
@@ -135,7 +125,7 @@ fn after_load(s: Rung) -> Rung
         present: true,
         action: false,
         blocks: blocks_loaded(s),
-        branches: s.branches,
+        ..s
     }
 }
 
@@ -147,12 +137,7 @@ fn after_contact(n: usize, s: Rung) -> Rung
     if is_load(n) {
         return after_load(s);
     }
-    Rung {
-        present: s.present,
-        action: false,
-        blocks: s.blocks,
-        branches: s.branches,
-    }
+    Rung { action: false, ..s }
 }
 
 // ANB and ORB pop the block stack.
@@ -160,14 +145,14 @@ fn after_join(s: Rung) -> Rung
     ensures { result ≡ rung s.present false (s.blocks - 1) s.branches }
 {
     Rung {
-        present: s.present,
         action: false,
-        blocks: one_less(s.blocks),
-        branches: s.branches,
+        blocks: s.blocks.saturating_sub(1),
+        ..s
     }
 }
 
 // MPS pushes on the branch stack, MRD reads the top, MPP pops it.
+#[tactic(auto, unfolding(ec20::specs::Rung::branches_after))]
 fn branches_after(n: usize, m: usize) -> usize
     requires { m ≤ 8 }
     ensures { result ≡ branches_after n m }
@@ -178,7 +163,7 @@ fn branches_after(n: usize, m: usize) -> usize
     if n == 10 {
         return m;
     }
-    one_less(m)
+    m.saturating_sub(1)
 }
 
 fn after_branch(n: usize, s: Rung) -> Rung
@@ -186,10 +171,9 @@ fn after_branch(n: usize, s: Rung) -> Rung
     ensures { result ≡ rung s.present false s.blocks (branches_after n s.branches) }
 {
     Rung {
-        present: s.present,
         action: false,
-        blocks: s.blocks,
         branches: branches_after(n, s.branches),
+        ..s
     }
 }
 
@@ -197,12 +181,7 @@ fn after_branch(n: usize, s: Rung) -> Rung
 fn after_action(s: Rung) -> Rung
     ensures { result ≡ after_action s }
 {
-    Rung {
-        present: s.present,
-        action: true,
-        blocks: s.blocks,
-        branches: s.branches,
-    }
+    Rung { action: true, ..s }
 }
 
 // After 19 to 23 flow is absent.
@@ -212,12 +191,12 @@ fn no_flow(s: Rung) -> Rung
     Rung {
         present: false,
         action: false,
-        blocks: s.blocks,
-        branches: s.branches,
+        ..s
     }
 }
 
 // The state after a record.
+#[tactic(auto, unfolding(ec20::specs::Rung::after_record))]
 fn after_record(i: Instr, s: Rung) -> Rung
     requires { Within s }
     ensures { result ≡ after_record i s }
@@ -225,22 +204,21 @@ fn after_record(i: Instr, s: Rung) -> Rung
     match i {
         Instr::Nop => s,
         Instr::Contact(n, _) => after_contact(n, s),
-        Instr::Compare(_, _, _) => after_load(s),
+        Instr::Compare(..) => after_load(s),
         Instr::Join(_) => after_join(s),
         Instr::Branch(n) => after_branch(n, s),
-        Instr::Coil(_, _) => after_action(s),
-        Instr::Timer(_, _) => after_action(s),
-        Instr::For(_) => no_flow(s),
-        Instr::Next => no_flow(s),
-        Instr::Jump(_) => no_flow(s),
-        Instr::Label(_) => no_flow(s),
-        Instr::End => no_flow(s),
-        Instr::Word(_, _, _, _) => after_action(s),
+        Instr::Coil(..) | Instr::Timer(..) | Instr::Word(..) => after_action(s),
+        Instr::For(_) | Instr::Next | Instr::Jump(_) | Instr::Label(_) | Instr::End => no_flow(s),
     }
 }
 
 // The first record that breaks the rule, each decoded by the table. A scan, and the check, start with flow absent and both stacks empty.
-pub fn first_broken(rows: &[[u8; 11]; 56], f: &[u8], first: usize, count: usize) -> Judged
+pub fn first_broken(
+    rows: &[[u8; 11]; 56],
+    f: &[u8],
+    first: usize,
+    count: usize,
+) -> Result<(), Refusal>
     requires rows_value { rows.now ≡ cells }
     requires held { Held (length f.now) first count }
     ensures { result ≡ first_broken (program_in (records_from f.now first count)) }
@@ -251,14 +229,12 @@ pub fn first_broken(rows: &[[u8; 11]; 56], f: &[u8], first: usize, count: usize)
         blocks: 0,
         branches: 0,
     };
-    let mut k = 0;
-    while k < count {
+    for k in 0..count {
         let i = decode::instr_at(rows, f, first, count, k);
         if !keeps(i, s) {
-            return Judged::Fault(5, k);
+            return Err(Refusal { number: 5, at: k });
         }
         s = after_record(i, s);
-        k += 1;
     }
-    Judged::Fine
+    Ok(())
 }

@@ -1,8 +1,6 @@
 use borrow.Author.Rules.{rules}
-use mathlib.Core.Bool.{true, false}
 use mathlib.Core.Path.{sym, ◌∙◌}
 use native.Mathlib.Nat.{sub-zero}
-use Prim.Native.Nat.{◌-◌}
 use Rattle.rungs.proofs.Laws.{turn, broke, done, within-after}
 use Rattle.rungs.proofs.first_broken.Goals as goal
 

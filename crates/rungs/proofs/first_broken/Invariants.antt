@@ -10,6 +10,3 @@ use Rattle.rungs.proofs.first_broken.Given as goal
 abbrev pub invariant-loop-k : goal.invariant-loop-k
 invariant-loop-k l =
     (l.k ≤ l.count) × Within l.s × (first_broken (program_in (records_from l.f l.first l.count)) ≡ broken_from (code_of (records_from l.f l.first l.count)) l.s l.k (l.count - l.k))
-
-abbrev pub decreases-loop-k : goal.decreases-loop-k
-decreases-loop-k l = l.count - l.k
