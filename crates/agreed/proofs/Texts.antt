@@ -87,13 +87,22 @@ number s from most a e h =
 
 -- ---- a line that is spelt
 
+-- the length and the end of a line
+abbrev length_in : Line → ℕ
+length_in L.Misspelt = 0
+length_in (Some w) = w.length
+
+abbrev end_in : Line → ℕ
+end_in L.Misspelt = 0
+end_in (Some w) = w.next
+
 -- the length was read as this: a number up to the line feed, which is behind it
 by_length : (s : List ℕ) (x : Number) (a m n e : ℕ) → line_by_length s a x ≡ L.Spelt m n e → (k : ℕ) × (x ≡ N.Spelt n k) × (e ≡ k + 1) × (byte_in s k ≡ line_feed)
 by_length s N.Misspelt a m n e h = let z : ◌≡◌ {A = ℕ} 0 1 = cc in absurd (omega arith)
-by_length s (Some w2) a m n e h = go (eqb (byte_in s w2.next) line_feed) refl h
+by_length s (Some w) a m n e h = go (eqb (byte_in s w.next) line_feed) refl h
   where
-    go : (t : Bool) → eqb (byte_in s w2.next) line_feed ≡ t → pick t (L.Spelt a w2.value (w2.next + 1)) L.Misspelt ≡ L.Spelt m n e → (j : ℕ) × (N.Spelt w2.value w2.next ≡ N.Spelt n j) × (e ≡ j + 1) × (byte_in s j ≡ line_feed)
-    go true q g = let z : w2.value ≡ n = cc in let w : w2.next + 1 ≡ e = cc in (w2.next, ap (λ (y : ℕ). N.Spelt y w2.next) z, sym w, eqb-true _ _ q)
+    go : (t : Bool) → eqb (byte_in s w.next) line_feed ≡ t → pick t (L.Spelt a w.value (w.next + 1)) L.Misspelt ≡ L.Spelt m n e → (j : ℕ) × (N.Spelt w.value w.next ≡ N.Spelt n j) × (e ≡ j + 1) × (byte_in s j ≡ line_feed)
+    go true q g = (w.next, ap (λ (y : ℕ). N.Spelt y w.next) (ap length_in g), sym (ap end_in g), eqb-true _ _ q)
     go false q g = let z : ◌≡◌ {A = ℕ} 0 1 = cc in absurd (omega arith)
 
 -- the start was read as this: a number up to a blank

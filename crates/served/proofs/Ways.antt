@@ -8,7 +8,7 @@ use lib.IntN.{ℤ}
 use Rattle.std.specs.Prelude.{Err}
 use Rattle.ec20.proofs.Tests.{picked}
 use Rattle.ec20.specs.Judged.{Judged}
-use Rattle.ec20.specs.Judged.{Fine, Fault}
+use Rattle.ec20.specs.Judged.{Fine}
 use Rattle.modbus.specs.Answered.{Answered}
 use Rattle.modbus.specs.Answered.{Refused, Silent, Reply}
 use Rattle.modbus.specs.Answer.{Answer, judge_answer, silent, replied, heard, answer_if, answer_of}
