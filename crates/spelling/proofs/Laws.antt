@@ -1,5 +1,5 @@
 -- What is known of digits, numbers and lines by their definitions, and what the calls of each function give together. Assumes nothing.
-use mathlib.Core.Path.{◌≡◌, refl, sym, ◌∙◌, ap}
+use mathlib.Core.Path.{◌≡◌, refl, sym, ◌∙◌, ap, subst}
 use mathlib.Core.Bool.{Bool, true, false, not, ◌&&◌, ◌||◌}
 use mathlib.Core.List.{List}
 use Prim.Native.Nat.{ℕ, zero, suc, ◌+◌, ◌-◌, ◌*◌, ◌^◌, ◌<◌, ◌≤◌}
@@ -9,18 +9,21 @@ use native.Mathlib.Numerals.{add-one}
 use native.Mathlib.Omega.{arith}
 use lib.ListN.{length, get_or-eq_default}
 use lib.Dec.{ltb, leb, eqb}
-use borrow.Author.Tests.{ltb-false, leb-true, eqb-true, eqb-false, le-leb, lt-leb, lt-ltb, le-ltb, eq-eqb, ne_eqb}
+use borrow.Author.Tests.{ltb-true, ltb-false, leb-true, eqb-true, eqb-false, lt-ltb, le-ltb, eq-eqb, ne_eqb}
 use Rattle.std.specs.Prelude.{Some}
 use Rattle.ec20.proofs.Some.{some_at, at_some}
-use Rattle.ec20.proofs.Tests.{both, neither, is_false, picked}
+use Rattle.ec20.proofs.Tests.{both, neither, is_false}
 use Rattle.ec20.specs.Basics.{pick, some_from}
-use Rattle.units.specs.Spelling.{blank, line_feed, byte_in, is_digit, digit_of, digits_of, wrong, number_at}
+use Rattle.units.specs.Spelling.{line_feed, byte_in, is_digit, digit_of, digits_of, wrong, number_at}
 use Rattle.units.specs.Text.{named, line_by_length, line_by_start, line_at}
 use Rattle.units.specs.declared.Digits.{Digits}
 use Rattle.units.specs.Number.{Number}
 use Rattle.units.specs.Number as N
+use Rattle.units.specs.Line.{Line}
 use Rattle.units.specs.Line as L
-use Rattle.spelling.specs.Bounds.{NumberIn, LineIn}
+use Rattle.spelling.proofs.Parts.{got, parted}
+use Rattle.spelling.specs.Part.{part_by, part_at}
+use Rattle.spelling.specs.Bounds.{NumberIn, PartIn, LineIn}
 
 -- a byte that is not 0 stands within the text
 pub stands : (s : List ℕ) (i b : ℕ) → b ≡ byte_in s i → 0 < b → i < length s
@@ -34,17 +37,13 @@ stands s i b e h =
 
 -- the ways out of `digit`: b is the byte that was read
 module _ (s : List ℕ) (d : Digits) (b : ℕ) (e : b ≡ byte_in s d.next) where
-  pub digit_low : b < 48 → d ≡ digit_of s d
+  pub digit-none : is_digit b ≡ false → d ≡ digit_of s d
   unfolding digit_of
-  digit_low h = rw (sym e, lt-leb 48 b h)
+  digit-none h = rw (sym e, h)
 
-  pub digit-high : 48 ≤ b → 57 < b → d ≡ digit_of s d
+  pub digit-more : is_digit b ≡ true → record { value = d.value * 10 + (b - 48); next = d.next + 1 } ≡ digit_of s d
   unfolding digit_of
-  digit-high h g = rw (sym e, le-leb 48 b h, lt-leb b 57 g)
-
-  pub digit-more : 48 ≤ b → b ≤ 57 → record { value = d.value * 10 + (b - 48); next = d.next + 1 } ≡ digit_of s d
-  unfolding digit_of
-  digit-more h g = rw (sym e, le-leb 48 b h, le-leb b 57 g)
+  digit-more h = rw (sym e, h)
 
 -- what one digit more adds at most
 pub record Longer (d e : Digits) : Type 0 where
@@ -92,22 +91,40 @@ digits_more s from k d e h g = rw (add-one k) (g ∙ ap (digit_of s) h)
 
 -- ---- a number
 
--- the code's tests are those of the definition: d are the digits, and z is the first byte
+or-true : (a b : Bool) → (a || true) || b ≡ true
+or-true true b = refl
+or-true false b = refl
+
+or-last : (a : Bool) → a || true ≡ true
+or-last true = refl
+or-last false = refl
+
+-- the ways out of `number`: d are the digits, and z is the first byte
 module _ (s : List ℕ) (from most k z : ℕ) (d : Digits) (l : k ≤ 11) (u : 11 ≤ k) (dk : d ≡ digits_of s from k) (ez : z ≡ byte_in s from) where
   all_digits : d ≡ digits_of s from 11
   all_digits = let e : k ≡ 11 = omega arith in rw e at dk
 
-  apart : ltb 1 (d.next - from) ≡ ltb (from + 1) d.next
-  apart =
-      elim (dec_lt (from + 1) d.next) [
-        | yes h ↦ lt-ltb 1 (d.next - from) (omega arith) ∙ sym (lt-ltb _ _ h)
-        | no h ↦ le-ltb 1 (d.next - from) (omega arith) ∙ sym (le-ltb (from + 1) d.next (omega arith))
-      ]
-
-  pub number_is : (t : Bool) → (eqb d.next from || (eqb z 48 && ltb 1 (d.next - from))) || ltb most d.value ≡ t
-      → pick t N.Misspelt (N.Spelt d.value d.next) ≡ number_at s from most
+  by_test : (t : Bool) → wrong s from most d ≡ t → pick t N.Misspelt (Some d) ≡ number_at s from most
   unfolding number_at
-  number_is t e = rw (sym all_digits, sym ez, sym apart, e)
+  by_test t e = rw (sym all_digits, e)
+
+  pub number-empty : d.next ≡ from → N.Misspelt ≡ number_at s from most
+  number-empty h = by_test true (rw (eq-eqb _ _ h))
+
+  pub number-zero : z ≡ 48 → 1 < d.next - from → N.Misspelt ≡ number_at s from most
+  number-zero h g =
+      by_test true (rw (sym ez, eq-eqb z 48 h, lt-ltb (from + 1) d.next (let j : from + 1 < d.next = omega arith in j)) (or-true (eqb d.next from) (ltb most d.value)))
+
+  pub number-over : most < d.value → N.Misspelt ≡ number_at s from most
+  number-over h = by_test true (rw (lt-ltb most d.value h) (or-last (eqb d.next from || (eqb (byte_in s from) 48 && ltb (from + 1) d.next))))
+
+  zero_ahead : (z ≡ 48 → 1 < d.next - from → ⊥) → eqb (byte_in s from) 48 && ltb (from + 1) d.next ≡ false
+  zero_ahead h =
+      is_false (eqb (byte_in s from) 48 && ltb (from + 1) d.next) (λ e. let g = both (eqb (byte_in s from) 48) _ e in
+      let i : from + 1 < d.next = ltb-true _ _ g.1 in h (ez ∙ eqb-true _ _ g.0) (omega arith))
+
+  pub number-spelt : (d.next ≡ from → ⊥) → (z ≡ 48 → 1 < d.next - from → ⊥) → d.value ≤ most → Some d ≡ number_at s from most
+  number-spelt h g i = by_test false (rw (ne_eqb _ _ h, zero_ahead g, le-ltb most d.value i))
 
 pub number_in : (s : List ℕ) (from most : ℕ) → NumberIn from most (number_at s from most)
 unfolding number_at
@@ -152,53 +169,45 @@ module _ (s : List ℕ) (from : ℕ) where
 
 -- ---- a line
 
--- the ways out of `line`: x is the number behind the name, and b the byte after it; y is the number behind that, and z the byte after it
+-- the line by its parts
+line-by-length : (s : List ℕ) (a : ℕ) (x : Number) → line_by_length s a x ≡ got (part_by s 10 x) (λ n f. L.Spelt a n f)
+line-by-length s a N.Misspelt = refl
+line-by-length s a (Some w) = parted s 10 w.value w.next (λ n f. L.Spelt a n f)
+
+line-by-start : (s : List ℕ) (most : ℕ) (x : Number) → line_by_start s most x ≡ got (part_by s 32 x) (λ a e. got (part_at s e most 10) (λ n f. L.Spelt a n f))
+unfolding part_at
+line-by-start s most N.Misspelt = refl
+line-by-start s most (Some w) =
+    ap (λ (y : Line). pick (eqb (byte_in s w.next) 32) y L.Misspelt) (line-by-length s w.value (number_at s (w.next + 1) most))
+    ∙ parted s 32 w.value w.next (λ a e. got (part_at s e most 10) (λ n f. L.Spelt a n f))
+
+-- the ways out of `line`: x is the first part behind the name, y the one behind that
 module _ (s : List ℕ) (from most : ℕ) where
   pub line-unnamed : named s from ≡ false → L.Misspelt ≡ line_at s from most
   unfolding line_at
   line-unnamed h = rw h
 
-  module _ (h : named s from ≡ true) (x : Number) (ex : x ≡ number_at s (from + 9) most) where
+  module _ (h : named s from ≡ true) (x : Number) (ex : x ≡ part_at s (from + 9) most 32) where
+    by_parts : got x (λ a e. got (part_at s e most 10) (λ n f. L.Spelt a n f)) ≡ line_at s from most
+    unfolding line_at part_at
+    by_parts = rw (h, line-by-start s most (number_at s (from + 9) most), sym ex)
+
     pub start-misspelt : x ≡ N.Misspelt → L.Misspelt ≡ line_at s from most
-    unfolding line_at
-    start-misspelt g = rw (h, sym ex, g)
+    start-misspelt g = rw g at by_parts
 
-    module _ (a e b : ℕ) (xs : x ≡ N.Spelt a e) (eb : b ≡ byte_in s e) where
-      pub start-unparted : (b ≡ 32 → ⊥) → L.Misspelt ≡ line_at s from most
-      unfolding line_at
-      start-unparted g = rw (h, sym ex, xs, sym eb, ne_eqb b 32 g)
+    module _ (a e : ℕ) (xs : x ≡ N.Spelt a e) (y : Number) (ey : y ≡ part_at s e most 10) where
+      by_end : got y (λ n f. L.Spelt a n f) ≡ line_at s from most
+      by_end = rw (sym ey) at (rw xs at by_parts)
 
-      module _ (g : b ≡ 32) (y : Number) (ey : y ≡ number_at s (e + 1) most) where
-        pub length-misspelt : y ≡ N.Misspelt → L.Misspelt ≡ line_at s from most
-        unfolding line_at
-        length-misspelt k = rw (h, sym ex, xs, sym eb, g, sym ey, k)
+      pub length-misspelt : y ≡ N.Misspelt → L.Misspelt ≡ line_at s from most
+      length-misspelt g = rw g at by_end
 
-        pub line-unended : (n f z : ℕ) → y ≡ N.Spelt n f → z ≡ byte_in s f → (z ≡ 10 → ⊥) → L.Misspelt ≡ line_at s from most
-        unfolding line_at
-        line-unended n f z ys ez k = rw (h, sym ex, xs, sym eb, g, sym ey, ys, sym ez, ne_eqb z 10 k)
+      pub line-spelt : (n f : ℕ) → y ≡ N.Spelt n f → L.Spelt a n f ≡ line_at s from most
+      line-spelt n f g = rw g at by_end
 
-        pub line-spelt : (n f z : ℕ) → y ≡ N.Spelt n f → z ≡ byte_in s f → z ≡ 10 → L.Spelt a n (f + 1) ≡ line_at s from most
-        unfolding line_at
-        line-spelt n f z ys ez k = rw (h, sym ex, xs, sym eb, g, sym ey, ys, sym ez, k)
-
--- what is known of a line
-by-length-in : (s : List ℕ) (from most a k : ℕ) (n : Number) → a ≤ most → from + 8 ≤ k → NumberIn k most n → LineIn (length s) from most (line_by_length s a n)
-by-length-in s from most a k N.Misspelt l u h = tt
-by-length-in s from most a k (Some w) l u h =
-    picked (LineIn (length s) from most) (eqb (byte_in s w.next) line_feed) (L.Spelt a w.value (w.next + 1)) L.Misspelt
-    (λ g. let i : w.next < length s = stands s w.next 10 (sym (eqb-true _ _ g)) (omega arith) in (l, h.0, omega (arith, h.1), omega arith))
-    (λ g. tt)
-
-by-start-in : (s : List ℕ) (from most : ℕ) (n : Number) → NumberIn (from + 9) most n → LineIn (length s) from most (line_by_start s most n)
-by-start-in s from most N.Misspelt h = tt
-by-start-in s from most (Some w) h =
-    picked (LineIn (length s) from most) (eqb (byte_in s w.next) blank) (line_by_length s w.value (number_at s (w.next + 1) most)) L.Misspelt
-    (λ g. by-length-in s from most w.value (w.next + 1) (number_at s (w.next + 1) most) h.0 (omega (arith, h.1)) (number_in s (w.next + 1) most))
-    (λ g. tt)
-
-pub line-in : (s : List ℕ) (from most : ℕ) → LineIn (length s) from most (line_at s from most)
-unfolding line_at
-line-in s from most =
-    picked (LineIn (length s) from most) (named s from) (line_by_start s most (number_at s (from + 9) most)) L.Misspelt
-    (λ g. by-start-in s from most (number_at s (from + 9) most) (number_in s (from + 9) most))
-    (λ g. tt)
+      -- a line ends in the text, behind its name
+      pub line-in : (n f : ℕ) → y ≡ N.Spelt n f → PartIn (length s) (from + 9) most x → PartIn (length s) e most y → LineIn (length s) from most (L.Spelt a n f)
+      line-in n f g p q =
+          let i = subst (PartIn (length s) (from + 9) most) xs p in
+          let j = subst (PartIn (length s) e most) g q in
+          (i.0, j.0, omega (arith, i.1, j.1), j.2)
