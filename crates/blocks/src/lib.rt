@@ -10,6 +10,7 @@ ghost use Rattle.ec20.specs.Move.{block, pool, block_fault, pool_fault, block_wo
 use ec20::Refusal;
 
 // Number i is one of the n from a on.
+#[tactic(auto, unfolding(ec20::specs::Devices::within))]
 pub fn within(a: usize, n: usize, i: usize) -> bool
     requires { (a < 2 ^ 33) × (n < 2 ^ 33) }
     ensures { result ≡ withinOf a n i }
@@ -18,6 +19,7 @@ pub fn within(a: usize, n: usize, i: usize) -> bool
 }
 
 // The n from a on and the m from b on have one in common; neither is empty.
+#[tactic(auto, unfolding(ec20::specs::Devices::meets))]
 pub fn meets(a: usize, n: usize, b: usize, m: usize) -> bool
     requires { (a < 2 ^ 33) × (n < 2 ^ 33) × (b < 2 ^ 33) × (m < 2 ^ 33) }
     ensures { result ≡ meetsOf a n b m }
@@ -26,6 +28,7 @@ pub fn meets(a: usize, n: usize, b: usize, m: usize) -> bool
 }
 
 // The n from a on are all among the m from b on.
+#[tactic(auto, unfolding(ec20::specs::Devices::inside))]
 pub fn inside(a: usize, n: usize, b: usize, m: usize) -> bool
     requires { (a < 2 ^ 33) × (n < 2 ^ 33) × (b < 2 ^ 33) × (m < 2 ^ 33) }
     ensures { result ≡ insideOf a n b m }
@@ -34,6 +37,7 @@ pub fn inside(a: usize, n: usize, b: usize, m: usize) -> bool
 }
 
 // 10: the block is empty, or not inside D.
+#[tactic(auto, unfolding(ec20::specs::Move::block_fault))]
 pub fn block_fault(start: usize, length: usize) -> Result<(), Refusal>
     requires { (start < 2 ^ 32) × (length < 2 ^ 32) }
     ensures { result ≡ block_fault ec20 (block start length) }
@@ -46,6 +50,7 @@ pub fn block_fault(start: usize, length: usize) -> Result<(), Refusal>
 }
 
 // 11: the pool's start is above its end, or its end above 8000.
+#[tactic(auto, unfolding(ec20::specs::Move::pool_fault))]
 pub fn pool_fault(start: usize, end: usize) -> Result<(), Refusal>
     ensures { result ≡ pool_fault ec20 (pool start end) }
 {
@@ -57,6 +62,7 @@ pub fn pool_fault(start: usize, end: usize) -> Result<(), Refusal>
 }
 
 // 12: the block meets WORK.
+#[tactic(auto, unfolding(ec20::specs::Move::block_work))]
 pub fn block_work(start: usize, length: usize) -> Result<(), Refusal>
     requires { (start < 2 ^ 32) × (length < 2 ^ 32) }
     ensures { result ≡ block_work ec20 (block start length) }
@@ -69,6 +75,7 @@ pub fn block_work(start: usize, length: usize) -> Result<(), Refusal>
 }
 
 // 14, of the exchange: the place is not inside D, meets the block or meets WORK.
+#[tactic(auto, unfolding(ec20::specs::Exchange::place_fault))]
 pub fn place_fault(start: usize, length: usize, place: usize) -> Result<(), Refusal>
     requires { (start < 2 ^ 32) × (length < 2 ^ 32) × (place < 2 ^ 32) }
     ensures { result ≡ place_fault ec20 (block start length) place }
