@@ -9,7 +9,6 @@ use Rattle.ec20.specs.Devices.{ec20}
 use Rattle.ec20.specs.File.{Records, records_of}
 use Rattle.ec20.specs.Move.{block, pool, is_place, place_of}
 use Rattle.ec20.specs.Operands.{first_bad}
-use Rattle.ec20.specs.Found.{Found}
 use Rattle.ec20.specs.Found.{At, Nowhere}
 use Rattle.ec20.specs.Judged.{Fine}
 use Rattle.places.specs.Right.{Right}

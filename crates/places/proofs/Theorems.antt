@@ -1,12 +1,12 @@
 -- The place that the definition finds is right, no lower one is, and it finds nowhere exactly if none is right. Assumes nothing.
 use Prim.Native.Nat.{ℕ, ◌+◌, ◌-◌, ◌≤◌, ◌<◌}
-use mathlib.Core.Bool.{Bool, true, false, not, ◌&&◌}
-use mathlib.Core.Path.{◌≡◌, refl, sym, ap, ap₂, ◌∙◌}
+use mathlib.Core.Bool.{true, not, ◌&&◌}
+use mathlib.Core.Path.{◌≡◌, refl, sym, ap₂, ◌∙◌}
 use native.Mathlib.Decide.{dec_lt}
 use native.Mathlib.Omega.{arith}
 use lib.Dec.{ltb}
 use borrow.Author.Tests.{ltb-true, lt-ltb, not-true}
-use Rattle.bound.proofs.First.{First, first-at, no-first}
+use Rattle.bound.proofs.First.{first-at, no-first}
 use Rattle.ec20.proofs.Ranges.{within-yes, is_within}
 use Rattle.ec20.proofs.Some.{some_at, at_some}
 use Rattle.ec20.proofs.Tests.{both, differ, is_false}
@@ -19,7 +19,7 @@ use Rattle.ec20.specs.Found.{Found}
 use Rattle.ec20.specs.Found.{At, Nowhere}
 use Rattle.ec20.specs.Judged.{Fine}
 use Rattle.places.specs.Right.{Right}
-use Rattle.places.specs.Runs.{spare, Clear}
+use Rattle.places.specs.Runs.{spare}
 use Rattle.places.proofs.Clear.{never, right-clear, clear-right}
 
 -- a program that is not refused by 2, 3 or 4, a block that is not empty, and a pool in D
