@@ -12,7 +12,7 @@ use Rattle.ec20.specs.declared.Control.TheVariants.{Plain, Opens, Closes, Jumps,
 use Rattle.ec20.specs.declared.Act.{Act}
 use Rattle.ec20.specs.declared.Act.TheVariants.{Go, Enter, Leave, Finish, Refuse}
 use Rattle.ec20.specs.Walked.{Walked}
-use Rattle.ec20.specs.Walked.{Done, Bad}
+use Rattle.ec20.specs.Walked.{Bad}
 use Rattle.ec20.specs.Control.{Controls}
 use Rattle.ec20.specs.Walkers.{last_act, mid_act, act_of, plus, follow, by_act, sequence_of}
 use Rattle.loops.specs.Capped.{cap}

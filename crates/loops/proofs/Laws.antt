@@ -6,6 +6,7 @@ use native.Mathlib.Nat.{zero-mul, suc-mul, min-eq_left, min-eq_right, le-mul_of_
 use native.Mathlib.Decide.{dec_le}
 use native.Mathlib.Omega.{arith}
 use Rattle.std.specs.Prelude.{Ok}
+use Rattle.ec20.proofs.Parts.{done-parts}
 use Rattle.ec20.specs.declared.Act.TheVariants.{Go, Enter, Leave, Finish, Refuse}
 use Rattle.ec20.specs.Walked.{Walked}
 use Rattle.ec20.specs.Walked.{Done, Bad}
@@ -60,8 +61,9 @@ loop-capped n (Bad k) = refl
 follow-done : (n : ℕ) (x : Walked) (m w : ℕ) (after : ℕ → Walked) (r : Walked) → Done m w ≡ capped (loop_of n x) → r ≡ capped (after m) → capped (plus w r) ≡ capped (follow n x after)
 unfolding capped loop_of follow
 follow-done n (Ok a2) m w after r p q =
-    let a : m ≡ a2.next + 1 = cc in
-    let b : w ≡ min (1 + n * (a2.steps + 1)) cap = cc in
+    let z = done-parts m w (a2.next + 1) (min (1 + n * (a2.steps + 1)) cap) p in
+    let a : m ≡ a2.next + 1 = z.0 in
+    let b : w ≡ min (1 + n * (a2.steps + 1)) cap = z.1 in
     rw (q, a, b) (plus-capped (min (1 + n * (a2.steps + 1)) cap) (after (a2.next + 1)) ∙ capped-plus (1 + n * (a2.steps + 1)) (after (a2.next + 1)))
 follow-done n (Bad k) m w after r p q = let z : ◌≡◌ {A = ℕ} 0 1 = cc in absurd (omega arith)
 
@@ -81,8 +83,9 @@ small-capped count k d (Bad b) h e = tt
 after-capped : (count k d n m w : ℕ) (x : Walked) → 0 < d → Ended count k d x → Done m w ≡ capped (loop_of n x) → (k < m) × ((m < count) × (w ≤ cap))
 unfolding Ended capped loop_of
 after-capped count k d n m w (Ok a2) h e p =
-    let a : m ≡ a2.next + 1 = cc in
-    let b : w ≡ min (1 + n * (a2.steps + 1)) cap = cc in
+    let z = done-parts m w (a2.next + 1) (min (1 + n * (a2.steps + 1)) cap) p in
+    let a : m ≡ a2.next + 1 = z.0 in
+    let b : w ≡ min (1 + n * (a2.steps + 1)) cap = z.1 in
     let q : a2.next + 1 < count = e.1.1 h in
     (omega arith, (omega arith, omega arith))
 after-capped count k d n m w (Bad b) h e p = let z : ◌≡◌ {A = ℕ} 0 1 = cc in absurd (omega arith)
@@ -128,6 +131,15 @@ module _ (code : Controls) (count k d : ℕ) (inside : k < count) where
   enter-bad p b e l zero h = absurd (omega arith)
   enter-bad p b e l (suc n) h =
       rw e (follow-bad p (sequence_of code count n (k + 1) (d + 1)) b (λ j. sequence_of code count n j d) (l n (omega arith)))
+
+  -- the rest of the sequence is bad, and so is the sequence
+  pub go-bad : (s b : ℕ) → act_of code count k d ≡ Go s → IsSequence code count (k + 1) d (Bad b) → IsSequence code count k d (Bad b)
+  unfolding capped plus
+  go-bad s b e q = go s (Bad b) e q
+
+  pub after-bad : (p m w b : ℕ) → act_of code count k d ≡ Enter p → k < m → IsLoop code count (k + 1) (d + 1) p (Done m w) → IsSequence code count m d (Bad b) → IsSequence code count k d (Bad b)
+  unfolding capped plus
+  after-bad p m w b e g l q = enter p m w (Bad b) e g l q
 
   pub leave : act_of code count k d ≡ Leave → IsSequence code count k d (Done k 0)
   unfolding IsSequence sequence_of by_act capped

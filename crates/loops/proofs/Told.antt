@@ -8,7 +8,7 @@ use native.Mathlib.Omega.{arith}
 use borrow.Author.Tests.{le-leb, lt-leb}
 use Rattle.std.specs.Prelude.{Ok}
 use Rattle.ec20.specs.Walked.{Walked}
-use Rattle.ec20.specs.Walked.{Done, Bad}
+use Rattle.ec20.specs.Walked.{Bad}
 use Rattle.ec20.specs.Loops.{too_long}
 use Rattle.ec20.specs.Walkers.{unsound, steps_walked}
 use Rattle.loops.specs.Capped.{cap, capped}

@@ -11,26 +11,24 @@ ghost use Rattle.loops.specs.Capped.{cap, capped};
 ghost use Rattle.loops.specs.Walks.{controls_in, loop_of, IsSequence, IsLoop, Small};
 ghost use Rattle.records.specs.Ranges.{Held};
 
-use ec20::{Act, Control, Walked};
+use ec20::{Act, Control, Walk};
 
 // One more than the most steps that 8, "W above 10,000,000", lets pass: a larger W is told as this.
 const CAP: usize = 10_000_001;
 
 // What the last record asks: "last record not END or a FOR open there" is refused.
+#[tactic(auto, unfolding(ec20::specs::Walkers::last_act))]
 fn last_act(c: Control, depth: usize) -> Act
     ensures { result ≡ last_act c depth }
 {
     match c {
         Control::Ends => { if depth == 0 { Act::Finish } else { Act::Refuse } }
-        Control::Plain => Act::Refuse,
-        Control::Opens(_) => Act::Refuse,
-        Control::Closes => Act::Refuse,
-        Control::Jumps(_) => Act::Refuse,
-        Control::Marks(_) => Act::Refuse,
+        _ => Act::Refuse,
     }
 }
 
 // What any other record asks: "NEXT with no FOR open, ninth open FOR, END not last" are refused.
+#[tactic(auto, unfolding(ec20::specs::Walkers::mid_act))]
 fn mid_act(c: Control, depth: usize) -> Act
     ensures { result ≡ mid_act c depth }
 {
@@ -44,13 +42,12 @@ fn mid_act(c: Control, depth: usize) -> Act
         }
         Control::Closes => { if 0 < depth { Act::Leave } else { Act::Refuse } }
         Control::Ends => Act::Refuse,
-        Control::Plain => Act::Go(1),
-        Control::Jumps(_) => Act::Go(1),
-        Control::Marks(_) => Act::Go(1),
+        Control::Plain | Control::Jumps(_) | Control::Marks(_) => Act::Go(1),
     }
 }
 
 // What record `at` asks, with `depth` loops open.
+#[tactic(auto, unfolding(ec20::specs::Walkers::act_of))]
 fn asked(f: &[u8], first: usize, count: usize, at: usize, depth: usize) -> Act
     requires held { Held (length f.now) first count }
     requires at_lt_count { at < count }
@@ -67,37 +64,37 @@ fn asked(f: &[u8], first: usize, count: usize, at: usize, depth: usize) -> Act
 fn least(steps: usize) -> usize
     ensures { result ≡ min steps cap }
 {
-    if steps < CAP { steps } else { CAP }
+    steps.min(CAP)
 }
 
 // More steps ahead of what was walked: "W of a body is the sum over its records".
-fn add(w: Walked, more: usize) -> Walked
-    requires { (more ≤ cap) × Small w }
-    ensures { result ≡ capped (plus more w) }
+#[tactic(auto, unfolding(crate::specs::Walks::Small, crate::specs::Capped::capped, ec20::specs::Walkers::plus))]
+fn add(w: Walk, more: usize) -> Walk
+    requires { (more ≤ cap) × Small (Ok w) }
+    ensures { Ok result ≡ capped (plus more (Ok w)) }
 {
-    match w {
-        Walked::Done(next, steps) => Walked::Done(next, least(more + steps)),
-        Walked::Bad(k) => Walked::Bad(k),
+    Walk {
+        next: w.next,
+        steps: least(more + w.steps),
     }
 }
 
 // The loop whose body was walked up to its NEXT: "a loop counting 1 + n x (W of its body + 1)". As many passes as the cap are enough.
-fn closed(w: Walked, passes: usize) -> Walked
-    requires { Small w }
-    ensures { result ≡ capped (loop_of passes w) }
+#[tactic(auto, unfolding(crate::specs::Walks::Small))]
+fn closed(w: Walk, passes: usize) -> Walk
+    requires { Small (Ok w) }
+    ensures { Ok result ≡ capped (loop_of passes (Ok w)) }
 {
-    match w {
-        Walked::Done(next, steps) => {
-            Walked::Done(next + 1, least(1 + least(passes) * (steps + 1)))
-        }
-        Walked::Bad(k) => Walked::Bad(k),
+    Walk {
+        next: w.next + 1,
+        steps: least(1 + least(passes) * (w.steps + 1)),
     }
 }
 
 // The records of a sequence from `at` on, with `depth` loops open, up to the NEXT of its loop or after END. Only a loop is a call, so that
 // the stack holds no more than the open loops.
 #[cycle(in_loop_sequence)]
-fn sequence(f: &[u8], first: usize, count: usize, at: usize, depth: usize) -> Walked
+fn sequence(f: &[u8], first: usize, count: usize, at: usize, depth: usize) -> Result<Walk, usize>
     requires held { Held (length f.now) first count }
     requires at_lt_count { (at < count) × (depth ≤ 8) }
     ensures { IsSequence (controls_in f.now first count) count at depth result }
@@ -112,47 +109,62 @@ fn sequence(f: &[u8], first: usize, count: usize, at: usize, depth: usize) -> Wa
                 k = next;
                 continue;
             }
-            Act::Enter(n) => match in_loop(f, first, count, next, depth + 1, n) {
-                Walked::Done(after, more) => {
-                    steps = least(steps + more);
-                    k = after;
-                    continue;
-                }
-                Walked::Bad(b) => return Walked::Bad(b),
-            },
-            Act::Leave => return Walked::Done(k, steps),
-            Act::Finish => return Walked::Done(next, least(steps + 1)),
-            Act::Refuse => return Walked::Bad(k),
+            Act::Enter(n) => {
+                let inner = in_loop(f, first, count, next, depth + 1, n)?;
+                steps = least(steps + inner.steps);
+                k = inner.next;
+                continue;
+            }
+            Act::Leave => return Ok(Walk { next: k, steps }),
+            Act::Finish => {
+                steps = least(steps + 1);
+                return Ok(Walk { next, steps });
+            }
+            Act::Refuse => return Err(k),
         }
     }
-    Walked::Bad(k)
+    Err(k)
 }
 
 // The loop of so many passes whose body begins at record `body`, the record after its FOR, with `depth` loops open, it among them: up to
 // after its NEXT. The body's first record is judged here, so that remaining records fall at each call.
 #[cycle(in_loop_sequence)]
-fn in_loop(f: &[u8], first: usize, count: usize, body: usize, depth: usize, passes: usize) -> Walked
+fn in_loop(
+    f: &[u8],
+    first: usize,
+    count: usize,
+    body: usize,
+    depth: usize,
+    passes: usize,
+) -> Result<Walk, usize>
     requires held { Held (length f.now) first count }
     requires body_lt_count { (body < count) × ((0 < depth) × (depth ≤ 8)) }
     ensures { IsLoop (controls_in f.now first count) count body depth passes result }
 {
     let next = body + 1;
     match asked(f, first, count, body, depth) {
-        Act::Go(n) => closed(add(sequence(f, first, count, next, depth), n), passes),
-        Act::Enter(n) => match in_loop(f, first, count, next, depth + 1, n) {
-            Walked::Done(after, steps) => {
-                closed(add(sequence(f, first, count, after, depth), steps), passes)
-            }
-            Walked::Bad(k) => Walked::Bad(k),
-        },
-        Act::Leave => closed(Walked::Done(body, 0), passes),
-        Act::Finish => Walked::Bad(body),
-        Act::Refuse => Walked::Bad(body),
+        Act::Go(n) => {
+            let rest = sequence(f, first, count, next, depth)?;
+            Ok(closed(add(rest, n), passes))
+        }
+        Act::Enter(n) => {
+            let inner = in_loop(f, first, count, next, depth + 1, n)?;
+            let rest = sequence(f, first, count, inner.next, depth)?;
+            Ok(closed(add(rest, inner.steps), passes))
+        }
+        Act::Leave => {
+            let empty = Walk {
+                next: body,
+                steps: 0,
+            };
+            Ok(closed(empty, passes))
+        }
+        Act::Finish | Act::Refuse => Err(body),
     }
 }
 
 // The structure of a program, and W: the whole program is a sequence, with no loop open.
-pub fn walk(f: &[u8], first: usize, count: usize) -> Walked
+pub fn walk(f: &[u8], first: usize, count: usize) -> Result<Walk, usize>
     requires { Held (length f.now) first count }
     ensures { result ≡ capped (walk_of (controls_of (program_in (records_from f.now first count))) count) }
 {
