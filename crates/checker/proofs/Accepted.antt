@@ -4,6 +4,7 @@ use mathlib.Core.Bool.{Bool, true, false}
 use mathlib.Core.List.{List}
 use mathlib.Core.Path.{◌≡◌, refl, sym, ◌∙◌}
 use native.Mathlib.Omega.{arith}
+use Rattle.ec20.proofs.Parts.{whole-parts}
 use Rattle.ec20.proofs.NoFault.{accepted-framed as framed-if, accepted-records}
 use Rattle.ec20.specs.Basics.{pick}
 use Rattle.ec20.specs.Check.{check_of}
@@ -21,7 +22,7 @@ pub apart : {A : Type 0} {a b : ℕ} → ◌≡◌ {A = Frame} Broken (Whole a b
 apart e = let z : ◌≡◌ {A = ℕ} 0 1 = cc in absurd (omega arith)
 
 pub whole-pick : (t : Bool) {a b first count : ℕ} → pick t (Whole a b) Broken ≡ Whole first count → (t ≡ true) × (first ≡ a) × (count ≡ b)
-whole-pick true e = (refl, cc, cc)
+whole-pick true {a} {b} {first} {count} e = let z = whole-parts a b first count e in (refl, sym z.0, sym z.1)
 whole-pick false e = apart e
 
 module _ (f : List ℕ) where

@@ -26,6 +26,7 @@ use Rattle.ec20.specs.Judged.{Fine, Fault}
 use Rattle.ec20.specs.Walked.{Walked}
 use Rattle.ec20.specs.Walked.{Done, Bad}
 use Rattle.ec20.specs.Verdict.{Verdict}
+use Rattle.ec20.specs.declared.Refusal.{Refusal}
 use Rattle.labels.specs.Sound.{Sound}
 use Rattle.loops.specs.Capped.{capped}
 use Rattle.loops.proofs.Told.{unsound-capped, too-long-capped, steps-capped}
@@ -33,12 +34,12 @@ use Rattle.ec20.specs.Verdict.{Accepted, Refused}
 use Rattle.checker.specs.Stages.{stage, steps_in, from_jumps, from_loops, from_rungs, from_records}
 
 -- a fault ends it
-ends : (n w : ℕ) (a b : Judged) {r : Judged} {m k : ℕ} → r ≡ a → r ≡ Fault m k → Refused m k ≡ stage n w (then a b)
-ends n w a b e f = rw (sym e ∙ f) refl
+ends : (n w : ℕ) (a b : Judged) {d : Refusal} → ◌≡◌ {A = Judged} (Err d) a → ◌≡◌ {A = Verdict} (Err d) (stage n w (then a b))
+ends n w a b e = rw (sym e) refl
 
 -- no fault: the next stage
-goes : (n w : ℕ) (a b : Judged) {r : Judged} {v : Verdict} → r ≡ a → r ≡ Fine → v ≡ stage n w b → v ≡ stage n w (then a b)
-goes n w a b e f g = g ∙ rw (sym e ∙ f) refl
+goes : (n w : ℕ) (a b : Judged) {v : Verdict} → Fine ≡ a → v ≡ stage n w b → v ≡ stage n w (then a b)
+goes n w a b e g = g ∙ rw (sym e) refl
 
 apart-walked : {A : Type 0} {m w k : ℕ} → ◌≡◌ {A = Walked} (Bad k) (Done m w) → A
 apart-walked e = let z : ◌≡◌ {A = ℕ} 0 1 = cc in absurd (omega arith)
@@ -49,34 +50,34 @@ unfolding capped
 done-walk (Bad k) e = apart-walked (sym e)
 done-walk (Ok a) e = (a.next, a.steps, refl)
 
-pub sound-walk : (code : Controls) (count : ℕ) {r : Walked} {m w : ℕ} → r ≡ capped (walk_of code count) → r ≡ Done m w → Sound code count
+pub sound-walk : (code : Controls) (count : ℕ) {m w : ℕ} → Done m w ≡ capped (walk_of code count) → Sound code count
 unfolding Sound
-sound-walk code count e f = done-walk (walk_of code count) (sym f ∙ e)
+sound-walk code count e = done-walk (walk_of code count) e
 
 module _ (rs : Records) where
   -- 7, then 8
-  pub jumps-fault : (w : ℕ) {r : Judged} {m k : ℕ} → r ≡ first_unlabelled (controls_of (program_in rs)) rs.count → r ≡ Fault m k
-      → Refused m k ≡ stage rs.count w (from_jumps rs w)
+  pub jumps-fault : (w : ℕ) {d : Refusal} → ◌≡◌ {A = Judged} (Err d) (first_unlabelled (controls_of (program_in rs)) rs.count)
+      → ◌≡◌ {A = Verdict} (Err d) (stage rs.count w (from_jumps rs w))
   unfolding from_jumps
-  jumps-fault w e f = ends rs.count w _ _ e f
+  jumps-fault w e = ends rs.count w _ _ e
 
-  pub jumps-few : (w : ℕ) {r : Judged} → r ≡ first_unlabelled (controls_of (program_in rs)) rs.count → r ≡ Fine → w ≤ 10000000
+  pub jumps-few : (w : ℕ) → Fine ≡ first_unlabelled (controls_of (program_in rs)) rs.count → w ≤ 10000000
       → Accepted rs.count w ≡ stage rs.count w (from_jumps rs w)
   unfolding from_jumps
-  jumps-few w e f h = goes rs.count w _ (too_long w) e f (rw (le-leb _ _ h) refl)
+  jumps-few w e h = goes rs.count w _ (too_long w) e (rw (le-leb _ _ h) refl)
 
-  pub jumps-many : (w : ℕ) {r : Judged} → r ≡ first_unlabelled (controls_of (program_in rs)) rs.count → r ≡ Fine → 10000000 < w
+  pub jumps-many : (w : ℕ) → Fine ≡ first_unlabelled (controls_of (program_in rs)) rs.count → 10000000 < w
       → Refused 8 0 ≡ stage rs.count w (from_jumps rs w)
   unfolding from_jumps
-  jumps-many w e f h = goes rs.count w _ (too_long w) e f (rw (lt-leb _ _ h) refl)
+  jumps-many w e h = goes rs.count w _ (too_long w) e (rw (lt-leb _ _ h) refl)
 
   -- 6, then the rest: the walker caps W above its limit, which changes no answer
-  pub loops-bad : 0 < rs.count → {r : Walked} {k : ℕ} → r ≡ capped (walked (program_in rs)) → r ≡ Bad k → Refused 6 k ≡ from_loops rs
+  pub loops-bad : 0 < rs.count → {k : ℕ} → Bad k ≡ capped (walked (program_in rs)) → Refused 6 k ≡ from_loops rs
   unfolding from_loops
-  loops-bad some {k = k} e f =
+  loops-bad some {k = k} e =
       let x : Walked = walked (program_in rs) in
-      let z : Fault 6 k ≡ unsound x = ap unsound (sym f ∙ e) ∙ unsound-capped x in
-      ends rs.count (steps_in rs) _ _ (z ∙ walked-unsound (controls_of (program_in rs)) rs.count some) refl
+      let z : Fault 6 k ≡ unsound x = ap unsound e ∙ unsound-capped x in
+      ends rs.count (steps_in rs) _ _ (z ∙ walked-unsound (controls_of (program_in rs)) rs.count some)
 
   later : (n w w' : ℕ) (l : Judged) → too_long w ≡ too_long w' → (w' ≤ 10000000 → w ≡ w') → stage n w (then l (too_long w)) ≡ stage n w' (then l (too_long w'))
   later n w w' (Err r) same few = refl
@@ -106,27 +107,26 @@ module _ (rs : Records) where
       go Fine z = rw (e, walked-unsound code rs.count some, z, walked-steps code rs.count some z)
       go (Err r) z = rw (e, walked-unsound code rs.count some, z)
 
-  pub loops-done : 0 < rs.count → {r : Walked} {m w : ℕ} {v : Verdict} → r ≡ capped (walked (program_in rs)) → r ≡ Done m w → v ≡ stage rs.count w (from_jumps rs w)
-      → v ≡ from_loops rs
-  loops-done some e f g = g ∙ from-walk (walked (program_in rs)) (sym f ∙ e) ∙ by-walkers some (walked (program_in rs)) refl
+  pub loops-done : 0 < rs.count → {m w : ℕ} {v : Verdict} → Done m w ≡ capped (walked (program_in rs)) → v ≡ stage rs.count w (from_jumps rs w) → v ≡ from_loops rs
+  loops-done some e g = g ∙ from-walk (walked (program_in rs)) e ∙ by-walkers some (walked (program_in rs)) refl
 
   -- 5, then the rest
-  pub rungs-fault : {r : Judged} {m k : ℕ} → r ≡ first_broken (program_in rs) → r ≡ Fault m k → Refused m k ≡ from_rungs rs
+  pub rungs-fault : {d : Refusal} → ◌≡◌ {A = Judged} (Err d) (first_broken (program_in rs)) → ◌≡◌ {A = Verdict} (Err d) (from_rungs rs)
   unfolding from_rungs judge_program
-  rungs-fault e f = ends rs.count (steps_in rs) _ _ e f
+  rungs-fault e = ends rs.count (steps_in rs) _ _ e
 
-  pub rungs-fine : {r : Judged} {v : Verdict} → r ≡ first_broken (program_in rs) → r ≡ Fine → v ≡ from_loops rs → v ≡ from_rungs rs
+  pub rungs-fine : {v : Verdict} → Fine ≡ first_broken (program_in rs) → v ≡ from_loops rs → v ≡ from_rungs rs
   unfolding from_rungs from_loops from_jumps judge_program
-  rungs-fine e f g = goes rs.count (steps_in rs) _ _ e f g
+  rungs-fine e g = goes rs.count (steps_in rs) _ _ e g
 
   -- 2 to 4, then the rest
-  pub records-fault : {r : Judged} {m k : ℕ} → r ≡ first_bad ec20 rs → r ≡ Fault m k → Refused m k ≡ from_records rs
+  pub records-fault : {d : Refusal} → ◌≡◌ {A = Judged} (Err d) (first_bad ec20 rs) → ◌≡◌ {A = Verdict} (Err d) (from_records rs)
   unfolding from_records
-  records-fault e f = ends rs.count (steps_in rs) _ _ e f
+  records-fault e = ends rs.count (steps_in rs) _ _ e
 
-  pub records-fine : {r : Judged} {v : Verdict} → r ≡ first_bad ec20 rs → r ≡ Fine → v ≡ from_rungs rs → v ≡ from_records rs
+  pub records-fine : {v : Verdict} → Fine ≡ first_bad ec20 rs → v ≡ from_rungs rs → v ≡ from_records rs
   unfolding from_records from_rungs
-  records-fine e f g = goes rs.count (steps_in rs) _ _ e f g
+  records-fine e g = goes rs.count (steps_in rs) _ _ e g
 
 -- the verdict of a program is its stage
 verdict-stage : (p : Program) (j : Judged) → verdict_of p j ≡ stage p.count (w_of p) j

@@ -10,9 +10,9 @@ use Rattle.ec20.specs.Labels.{first_unlabelled}
 use Rattle.ec20.specs.Loops.{first_unsound, too_long}
 use Rattle.ec20.specs.Operands.{first_bad}
 use Rattle.ec20.specs.Judged.{Judged}
-use Rattle.ec20.specs.Judged.{Fine, Fault}
+use Rattle.ec20.specs.Judged.{Fine}
 use Rattle.ec20.specs.Verdict.{Verdict}
-use Rattle.ec20.specs.Verdict.{Accepted, Refused}
+use Rattle.ec20.specs.Verdict.{Accepted}
 
 -- no fault: accepted, with so many records and steps
 abbrev pub stage : ℕ → ℕ → Judged → Verdict

@@ -11,92 +11,38 @@ ghost use Rattle.instructions.specs.Cells.{cells};
 ghost use Rattle.labels.specs.Sound.{Sound};
 ghost use Rattle.records.specs.Ranges.{Held};
 
-use ec20::{Frame, Judged, Verdict, Walked};
+use ec20::{Accepted, Frame, Refusal};
 
-// 7 and then 8, of a program of w steps whose structure is right.
-fn judge_jumps(f: &[u8], first: usize, count: usize, w: usize) -> Verdict
-    requires held { Held (length f.now) first count }
-    requires sound { Sound (controls_of (program_in (records_from f.now first count))) count }
-    ensures { result ≡ stage count w (from_jumps (records_from f.now first count) w) }
-{
-    match labels::first_unlabelled(f, first, count) {
-        Judged::Fault(n, k) => Verdict::Refused {
-            number: n,
-            record: k,
-        },
-        Judged::Fine => {
-            if w <= 10_000_000 {
-                Verdict::Accepted {
-                    records: count,
-                    steps: w,
-                }
-            } else {
-                Verdict::Refused {
-                    number: 8,
-                    record: 0,
-                }
-            }
-        }
-    }
-}
-
-// 6 and then the rest.
-fn judge_loops(f: &[u8], first: usize, count: usize) -> Verdict
-    requires { Held (length f.now) first count }
-    ensures { result ≡ from_loops (records_from f.now first count) }
-{
-    match loops::walk(f, first, count) {
-        Walked::Bad(k) => Verdict::Refused {
-            number: 6,
-            record: k,
-        },
-        Walked::Done(_, w) => judge_jumps(f, first, count, w),
-    }
-}
-
-// 5 by the instruction table, and then the rest.
-fn judge_rungs(rows: &[[u8; 11]; 56], f: &[u8], first: usize, count: usize) -> Verdict
-    requires rows_value { rows.now ≡ cells }
-    requires held { Held (length f.now) first count }
-    ensures { result ≡ from_rungs (records_from f.now first count) }
-{
-    match rungs::first_broken(rows, f, first, count) {
-        Judged::Fault(n, k) => Verdict::Refused {
-            number: n,
-            record: k,
-        },
-        Judged::Fine => judge_loops(f, first, count),
-    }
-}
-
-// 2, 3 and 4 in record order, by the instruction table, and then the rest.
-fn judge_records(rows: &[[u8; 11]; 56], f: &[u8], first: usize, count: usize) -> Verdict
+// 2, 3 and 4 in record order, by the instruction table; then 5, 6, 7 and 8, each over the whole program.
+fn judge(rows: &[[u8; 11]; 56], f: &[u8], first: usize, count: usize) -> Result<Accepted, Refusal>
     requires rows_value { rows.now ≡ cells }
     requires held { Held (length f.now) first count }
     ensures { result ≡ from_records (records_from f.now first count) }
 {
-    match faults::first_bad(rows, f, first, count) {
-        Judged::Fault(n, k) => Verdict::Refused {
-            number: n,
-            record: k,
-        },
-        Judged::Fine => judge_rungs(rows, f, first, count),
+    faults::first_bad(rows, f, first, count)?;
+    rungs::first_broken(rows, f, first, count)?;
+    let w = match loops::walk(f, first, count) {
+        Ok(walk) => walk.steps,
+        Err(at) => return Err(Refusal { number: 6, at }),
+    };
+    labels::first_unlabelled(f, first, count)?;
+    if w <= 10_000_000 {
+        return Ok(Accepted {
+            records: count,
+            steps: w,
+        });
     }
+    Err(Refusal { number: 8, at: 0 })
 }
 
 // The check of a file: accepted, with its count of records and W; or refused, with the number and the record told. The instruction table is made
 // once, where the frame is whole, and lent.
-pub fn check(f: &[u8]) -> Verdict
+pub fn check(f: &[u8]) -> Result<Accepted, Refusal>
     ensures { result ≡ check_of f.now }
 {
-    match records::frame(f) {
-        Frame::Whole { first, count } => {
-            let rows = instructions::table();
-            judge_records(&rows, f, first, count)
-        }
-        Frame::Broken => Verdict::Refused {
-            number: 1,
-            record: 0,
-        },
-    }
+    let Some(Frame { first, count }) = records::frame(f) else {
+        return Err(Refusal { number: 1, at: 0 });
+    };
+    let rows = instructions::table();
+    judge(&rows, f, first, count)
 }

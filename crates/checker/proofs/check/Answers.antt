@@ -1,13 +1,9 @@
 use Rattle.checker.proofs.StageLaws.{whole-file, broken-file}
-use Rattle.records.specs.Ranges.{Fits}
-use mathlib.Core.Path.{sym, subst, ◌∙◌}
+use mathlib.Core.Path.{sym, ◌∙◌}
 use Rattle.checker.proofs.check.Goals as goal
 
-pub judge_records-requires : goal.judge_records-requires
-judge_records-requires c = record { rows_value = c.table-rows.ensures; held = subst (Fits _) c.in-Whole.is c.frame.ensures.fits }
+pub returns-in_default : goal.returns-in_default
+returns-in_default c = broken-file _ (sym c.in_default.is ∙ c.frame.ensures.value)
 
-pub returns-in-Whole : goal.returns-in-Whole
-returns-in-Whole c = c.judge_records.ensures ∙ whole-file _ (sym c.in-Whole.is ∙ c.frame.ensures.value)
-
-pub returns-in-Broken : goal.returns-in-Broken
-returns-in-Broken c = broken-file _ (sym c.in-Broken.is ∙ c.frame.ensures.value)
+pub returns : goal.returns
+returns c = c.judge.ensures ∙ whole-file _ c.in-Some.ensures.value
