@@ -11,7 +11,7 @@ ghost use Rattle.jumps.specs.Prepared.{goes_to, Prepared};
 ghost use Rattle.labels.specs.Places.{Places};
 ghost use Rattle.records.specs.Ranges.{Held};
 
-use ec20::{Control, Found, Machine};
+use ec20::{Control, Machine};
 use labels::Want;
 
 // FOR 0 goes to the record after its NEXT; else a loop of so many passes is opened. The ninth, which 6 refuses, is passed by.
@@ -47,30 +47,13 @@ pub fn close_loop(left: &mut [usize; 8], back: &[usize; 8], s: Machine) -> Machi
     requires pc_bound { s.pc < 2 ^ 63 }
     ensures { (c : Memory) → world c (open_loops left.new back.now) result ≡ close_of (world c (open_loops left.old back.now) s) }
 {
-    let inner = innermost(s.depth);
+    let inner = s.depth.saturating_sub(1);
     let passes = left[inner];
     if 1 < passes {
         left[inner] = passes - 1;
         return flow::go_to(s, back[inner], s.depth);
     }
     flow::go_to(s, s.pc + 1, inner)
-}
-
-// The innermost of so many loops that are open.
-fn innermost(depth: usize) -> usize
-    ensures { result ≡ depth - 1 }
-{
-    if depth == 0 { 0 } else { depth - 1 }
-}
-
-// The record found; past the program if there is none.
-fn or_past(count: usize, x: Found) -> usize
-    ensures { result ≡ or_past count x }
-{
-    match x {
-        Found::At(t) => t,
-        Found::Nowhere => count,
-    }
 }
 
 // CJ goes, with flow, to its label.
@@ -86,6 +69,7 @@ pub fn jump(goes: &[usize; 2000], s: Machine) -> Machine
 }
 
 // Where record k goes: a FOR to its NEXT, a CJ to its label, whose place is looked up; past the program if there is none. Any other has 0.
+#[tactic(auto, unfolding(crate::specs::Prepared::goes_to, ec20::specs::Control::or_past))]
 fn goes_to(f: &[u8], first: usize, count: usize, places: &[usize; 128], k: usize) -> usize
     requires held { Held (length f.now) first count }
     requires places { Places (controls_of (program_in (records_from f.now first count))) count places.now }
@@ -93,12 +77,9 @@ fn goes_to(f: &[u8], first: usize, count: usize, places: &[usize; 128], k: usize
     ensures { result ≡ goes_to (controls_of (program_in (records_from f.now first count))) count k (controls_of (program_in (records_from f.now first count)) k) }
 {
     match decode::control_at(f, first, count, k) {
-        Control::Opens(_) => or_past(count, labels::find(f, first, count, k + 1, Want::Close)),
-        Control::Jumps(l) => or_past(count, labels::place(f, first, count, places, l)),
-        Control::Plain => 0,
-        Control::Closes => 0,
-        Control::Marks(_) => 0,
-        Control::Ends => 0,
+        Control::Opens(_) => { labels::find(f, first, count, k + 1, Want::Close).unwrap_or(count) }
+        Control::Jumps(l) => labels::place(f, first, count, places, l).unwrap_or(count),
+        _ => 0,
     }
 }
 
@@ -109,11 +90,8 @@ fn looked_up(places: &[usize; 128], f: &[u8], first: usize, count: usize) -> [us
     ensures { Prepared (controls_of (program_in (records_from f.now first count))) count result }
 {
     let mut goes = [0usize; 2000];
-    let mut k = 0;
-    while k < count {
-        let v = goes_to(f, first, count, places, k);
-        goes[k] = v;
-        k += 1;
+    for k in 0..count {
+        goes[k] = goes_to(f, first, count, places, k);
     }
     goes
 }

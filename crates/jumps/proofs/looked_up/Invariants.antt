@@ -1,5 +1,4 @@
 -- The loop's invariant: the first k records are looked up.
-use Prim.Native.Nat.{◌-◌}
 use Rattle.ec20.specs.Code.{program_in}
 use Rattle.ec20.specs.Control.{controls_of}
 use Rattle.ec20.specs.File.{records_from}
@@ -11,6 +10,3 @@ abbrev pub invariant-loop-k : goal.invariant-loop-k
 invariant-loop-k l =
     let code = controls_of (program_in (records_from l.f l.first l.count)) in
     Filled (λ j. goes_to code l.count j (code j)) l.k l.goes
-
-abbrev pub decreases-loop-k : goal.decreases-loop-k
-decreases-loop-k l = l.count - l.k
