@@ -1,6 +1,5 @@
 -- The walk over the lines of a unit list, whose declarations a table keeps: by the walk over any lines. Assumes nothing.
 use Prim.Native.Nat.{ℕ, ◌+◌, ◌<◌, ◌≤◌}
-use mathlib.Core.Bool.{true, false}
 use mathlib.Core.List.{List, []}
 use mathlib.Core.Path.{◌≡◌, sym, ap, ◌∙◌}
 use native.Mathlib.Decide.{dec_lt}
@@ -8,14 +7,15 @@ use native.Mathlib.Omega.{arith}
 use lib.ListN.{length, set, replicate}
 use lib.Seq.{set_out}
 use borrow.Author.Tests.{lt-ltb, le-ltb}
-use Rattle.ec20.specs.Judged.{Judged}
+use Rattle.std.specs.Prelude.{Some}
+use Rattle.ec20.specs.Judged.{Judged, Fine, Fault}
 use Rattle.units.proofs.Walk.{kept-length, Passed as Walked, Over, passed_none as Walked-none, passed-more as Walked-more, passed-misspelt as walked-misspelt, passed-all as walked_all}
-use Rattle.units.specs.Kept.{good_of, line_of}
 use Rattle.units.specs.Listed.{declaration, unit_at, entry_of, units_of}
 use Rattle.units.specs.Reading.{Entry, spelt, Read}
 use Rattle.units.specs.declared.Declaration.{Declaration}
 use Rattle.units.specs.declared.Table.{Table}
 use Rattle.units.specs.UnitLine.{UnitLine}
+use Rattle.units.specs.declared.UnitLine.{UnitLine as SpeltLine}
 use Rattle.units.specs.UnitLine as U
 use Rattle.unit_texts.specs.Held.{nothing, table_of, put_of, held_of}
 
@@ -45,24 +45,24 @@ put-at t i d e =
     ]
 
 -- what a walk that is over has is what is held
-held-over : (r : Read Declaration) (j : Judged) (k : ℕ) (t : Table) → Over Declaration r room j k t.at
-    → record { good = good_of j; line = line_of j; count = k; table = t } ≡ held_of r
+held-over : (r : Read Declaration) (j : Judged) (k : ℕ) (t : Table) → Over Declaration r room j k t.at → record { fault = j; count = k; table = t } ≡ held_of r
 unfolding held_of table_of
 held-over r j k t o = rw (o.fault, o.count, ← o.kept)
 
 module _ (s : List ℕ) (from k : ℕ) (t : Table) (w : Passed s from k t) where
   module _ (h : from < length s) (x : UnitLine) (ex : x ≡ unit_at s from) where
-    pub passed-more : (u p a n e : ℕ) (d : Declaration) (t' : Table) → x ≡ U.Spelt u p a n e → from < e → e ≤ length s → d ≡ declaration s u p a n → t' ≡ put_of t k d → Passed s e (k + 1) t'
-    passed-more u p a n e d t' g l v ed et =
-        let places : length t.at ≡ 64 = ap (λ (y : List Declaration). length y) w.kept ∙ kept-length room w.l in
-        Walked-more (entry_at s) (length s) room from k t.at w d e t'.at h
-        (ap (entry_of s) (sym ex ∙ g) ∙ ap (λ (y : Declaration). spelt y e) (sym ed)) l v
-        (ap (λ (y : Table). y.at) et ∙ put-at t k d places)
+    pub passed-more : (y : SpeltLine) (d : Declaration) (t' : Table) → x ≡ Some y → from < y.next → y.next ≤ length s
+        → d ≡ declaration s y.unit y.name y.start y.length → t' ≡ put_of t k d → Passed s y.next (k + 1) t'
+    passed-more y d t' g l v ed et =
+        let places : length t.at ≡ 64 = ap (λ (z : List Declaration). length z) w.kept ∙ kept-length room w.l in
+        Walked-more (entry_at s) (length s) room from k t.at w d y.next t'.at h
+        (ap (entry_of s) (sym ex ∙ g) ∙ ap (λ (z : Declaration). spelt z y.next) (sym ed)) l v
+        (ap (λ (z : Table). z.at) et ∙ put-at t k d places)
 
-    pub passed-misspelt : x ≡ U.Misspelt → record { good = false; line = k; count = k; table = t } ≡ held_of (units_of s)
+    pub passed-misspelt : x ≡ U.Misspelt → record { fault = Fault 15 k; count = k; table = t } ≡ held_of (units_of s)
     unfolding units_of
     passed-misspelt g = held-over _ _ k t (walked-misspelt (entry_at s) (length s) room from k t.at w h (ap (entry_of s) (sym ex ∙ g)))
 
-  pub passed-all : length s ≤ from → record { good = true; line = 0; count = k; table = t } ≡ held_of (units_of s)
+  pub passed-all : length s ≤ from → record { fault = Fine; count = k; table = t } ≡ held_of (units_of s)
   unfolding units_of
   passed-all h = held-over _ _ k t (walked_all (entry_at s) (length s) room from k t.at w h)

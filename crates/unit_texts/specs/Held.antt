@@ -1,7 +1,7 @@
--- What is held of a unit list that was read: a judgement as two numbers, and the first 64 declarations by value.
+-- What is held of a unit list that was read: the judgement, and the first 64 declarations by value.
 use Rattle.std.specs.Prelude.{ℕ, ◌+◌, ◌<◌, ◌≤◌, List, ltb, length, set, replicate, Some}
 use Rattle.ec20.specs.Basics.{pick}
-use Rattle.units.specs.Kept.{first_of, good_of, line_of}
+use Rattle.units.specs.Kept.{first_of}
 use Rattle.units.specs.Reading.{Read}
 use Rattle.units.specs.declared.Declaration.{Declaration}
 use Rattle.units.specs.declared.Table.{Table}
@@ -28,4 +28,4 @@ UnitIn n from (Some w) = (w.unit ≤ 65535) × (w.name + 8 ≤ n) × (w.start �
 
 -- what is held of what was read
 unfoldable pub held_of : Read Declaration → Units
-held_of r = record { good = good_of r.fault; line = line_of r.fault; count = length r.list; table = table_of r.list }
+held_of r = record { fault = r.fault; count = length r.list; table = table_of r.list }

@@ -1,7 +1,5 @@
--- What is kept of a text that was read: its entries in a room of so many places, and the judgement as a test and a line.
-use Rattle.std.specs.Prelude.{ℕ, Bool, true, false, List, [], ◌∷◌, replicate, Err}
-use Rattle.ec20.specs.Judged.{Judged}
-use Rattle.ec20.specs.Judged.{Fine}
+-- What is kept of a text that was read: its entries in a room of so many places.
+use Rattle.std.specs.Prelude.{ℕ, List, [], ◌∷◌, replicate}
 
 -- the entries of a list in a room: from its first place on, those past its end left out; places past them stay as they were
 unfoldable pub kept_in : {A : Type 0} → List A → List A → List A
@@ -12,13 +10,3 @@ kept_in (b ∷ bs) (a ∷ l) = a ∷ kept_in bs l
 -- the first n of a list, filled up with entries that hold nothing
 abbrev pub first_of : {A : Type 0} → ℕ → A → List A → List A
 first_of n nothing l = kept_in (replicate n nothing) l
-
--- no line is misspelt
-abbrev pub good_of : Judged → Bool
-good_of Fine = true
-good_of (Err r) = false
-
--- the first line that is misspelt, and 0 if none is
-abbrev pub line_of : Judged → ℕ
-line_of Fine = 0
-line_of (Err r) = r.at

@@ -1,27 +1,21 @@
 -- `job_texts::job_line` meets its contract. Assumes nothing.
-use Rattle.job_texts.proofs.Parts.{start-misspelt, length-misspelt, place-misspelt, job-spelt, job-in}
+use mathlib.Core.Path.{◌∙◌}
+use Rattle.job_texts.proofs.Parts.{start-misspelt, length-misspelt, place-misspelt, job-spelt}
 use Rattle.job_texts.proofs.job_line.Goals as goal
 
-pub returns-in-Spelt-part-2 : goal.returns-in-Spelt-part-2
-returns-in-Spelt-part-2 c =
-    record {
-      value = job-spelt _ _ _ c.part.ensures.value _ _ c.in-Spelt.is _ c.part-in-Spelt.ensures.value _ _ c.in-Spelt-part.is _ c.part-in-Spelt-part.ensures.value
-          _ _ c.in-Spelt-part-2.is;
-      job_line_in = job-in _ _ _ _ _ _ _ _ _ _ _ c.in-Spelt.is c.in-Spelt-part.is c.in-Spelt-part-2.is c.part.ensures.part_in c.part-in-Spelt.ensures.part_in
-          c.part-in-Spelt-part.ensures.part_in;
-    }
+pub returns-in_err-start-clause-value : goal.returns-in_err-start-clause-value
+returns-in_err-start-clause-value c = c.from_residual.ensures ∙ start-misspelt _ _ _ c.part.ensures.value c.in_err-start.was
 
-pub returns-in-Misspelt-part-2 : goal.returns-in-Misspelt-part-2
-returns-in-Misspelt-part-2 c =
-    record {
-      value = place-misspelt _ _ _ c.part.ensures.value _ _ c.in-Spelt.is _ c.part-in-Spelt.ensures.value _ _ c.in-Spelt-part.is _
-          c.part-in-Spelt-part.ensures.value c.in-Misspelt-part-2.is;
-      job_line_in = tt;
-    }
+pub returns-in_err-length-clause-value : goal.returns-in_err-length-clause-value
+returns-in_err-length-clause-value c =
+    c.from_residual-in_err-length.ensures
+    ∙ length-misspelt _ _ _ c.part.ensures.value _ _ c.in_ok-start.was _ c.part-2.ensures.value c.in_err-length.was
 
-pub returns-in-Misspelt-part : goal.returns-in-Misspelt-part
-returns-in-Misspelt-part c =
-    record { value = length-misspelt _ _ _ c.part.ensures.value _ _ c.in-Spelt.is _ c.part-in-Spelt.ensures.value c.in-Misspelt-part.is; job_line_in = tt }
+pub returns-in_err-place-clause-value : goal.returns-in_err-place-clause-value
+returns-in_err-place-clause-value c =
+    c.from_residual-in_err-place.ensures
+    ∙ place-misspelt _ _ _ c.part.ensures.value _ _ c.in_ok-start.was _ c.part-2.ensures.value _ _ c.in_ok-length.was _ c.part-3.ensures.value c.in_err-place.was
 
-pub returns-in-Misspelt : goal.returns-in-Misspelt
-returns-in-Misspelt c = record { value = start-misspelt _ _ _ c.part.ensures.value c.in-Misspelt.is; job_line_in = tt }
+pub returns-clause-value : goal.returns-clause-value
+returns-clause-value c =
+    job-spelt _ _ _ c.part.ensures.value _ _ c.in_ok-start.was _ c.part-2.ensures.value _ _ c.in_ok-length.was _ c.part-3.ensures.value _ _ c.in_ok-place.was

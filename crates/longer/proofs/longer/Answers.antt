@@ -1,20 +1,14 @@
 -- The part that is told, by lifetime. Assumes nothing.
-use mathlib.Core.Path.{sym}
-use lib.Seq.{length-take-le}
-use Rattle.longer.proofs.Laws.{of-second, of-first}
+use Rattle.std.specs.Prelude.{Some, None}
+use Rattle.longer.proofs.Laws.{by_told}
+use Rattle.longer.specs.declared.Part.TheVariants.{First, Second}
 use Rattle.longer.proofs.longer.Goals as goal
 
--- the part lies within its text
-pub slice_bounds-result-end : goal.slice_bounds-result-end
-slice_bounds-result-end c =
-    sym (length-take-le _ c.args.b.now (c.which-p.ensures.size_in_bounds.0 c.if-p-eq2.true))
+pub returns-in-Some-First : goal.returns-in-Some-First
+returns-in-Some-First c = by_told _ _ (Some (First c.in-Some-First.n)) (rw c.in-Some-First.field-0-is at c.in-Some-First.ensures.text_value)
 
-pub returns-then-p-eq2 : goal.returns-then-p-eq2
-returns-then-p-eq2 c = of-second _ _ _ _ c.which-p.ensures.text_value c.if-p-eq2.true
+pub returns-in-Some-Second : goal.returns-in-Some-Second
+returns-in-Some-Second c = by_told _ _ (Some (Second c.in-Some-Second.n)) (rw c.in-Some-Second.field-0-is at c.in-Some-Second.ensures.text_value)
 
-pub slice_bounds-result-end-2 : goal.slice_bounds-result-end-2
-slice_bounds-result-end-2 c =
-    sym (length-take-le _ c.args.a.now (c.which-p.ensures.size_in_bounds.1 c.if-p-eq2.false))
-
-pub returns : goal.returns
-returns c = of-first _ _ _ _ c.which-p.ensures.text_value c.if-p-eq2.false
+pub returns-in-None : goal.returns-in-None
+returns-in-None c = by_told _ _ None c.in-None.ensures.text_value

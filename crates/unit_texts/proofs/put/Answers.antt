@@ -7,6 +7,6 @@ pub returns-then-i-lt64 : goal.returns-then-i-lt64
 unfolding put_of
 returns-then-i-lt64 c = rw (lt-ltb _ _ c.if-i-lt64.true)
 
-pub returns : goal.returns
+pub returns-else-i-lt64 : goal.returns-else-i-lt64
 unfolding put_of
-returns c = rw (le-ltb _ _ c.if-i-lt64.false)
+returns-else-i-lt64 c = rw (le-ltb _ _ c.if-i-lt64.false)
