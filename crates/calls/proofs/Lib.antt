@@ -1,5 +1,4 @@
 pub mod Words
 pub mod Digits
 mod Commands
-pub mod Statuses
 mod Computed

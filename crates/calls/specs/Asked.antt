@@ -1,5 +1,7 @@
 -- "Which command a call asks for."
-use Rattle.std.specs.Prelude.{ℕ, Bool, false, cond, ◌&&◌, ◌||◌, List, [], ◌∷◌, ◌==◌, slice_index_or}
+use Rattle.std.specs.Prelude.{ℕ, Bool, false, cond, ◌&&◌, ◌||◌, List, [], ◌∷◌, ◌==◌, slice_index_or, Option, Some, None}
+use Rattle.calls.specs.declared.names.Command.TheVariants.{Check, Map, Move, Exchange, Scan, Trial, Demo, Answer, Slave, Clashes, Longer, Job, Picture}
+use Rattle.calls.specs.declared.names.Command.{Command}
 use Rattle.calls.specs.Text.{word_of, count_of, same_word, which_of}
 
 -- The names, each ended by a zero byte: check, map, move, exchange, scan, trial, demo, answer, slave, clashes, longer, job.
@@ -17,6 +19,23 @@ names =
     99 ∷ 108 ∷ 97 ∷ 115 ∷ 104 ∷ 101 ∷ 115 ∷ 0 ∷
     108 ∷ 111 ∷ 110 ∷ 103 ∷ 101 ∷ 114 ∷ 0 ∷
     106 ∷ 111 ∷ 98 ∷ 0 ∷ []
+
+-- the place of a command among them; 12 for none, and 13 for a map as a picture
+abbrev pub number_of_command : Option Command → ℕ
+number_of_command None = 12
+number_of_command (Some Check) = 0
+number_of_command (Some Map) = 1
+number_of_command (Some Move) = 2
+number_of_command (Some Exchange) = 3
+number_of_command (Some Scan) = 4
+number_of_command (Some Trial) = 5
+number_of_command (Some Demo) = 6
+number_of_command (Some Answer) = 7
+number_of_command (Some Slave) = 8
+number_of_command (Some Clashes) = 9
+number_of_command (Some Longer) = 10
+number_of_command (Some Job) = 11
+number_of_command (Some Picture) = 13
 
 -- --picture
 unfoldable pub picture : List ℕ

@@ -1,4 +1,5 @@
 pub mod Text
 pub mod Numbers
+pub mod BlockAndPool
 pub mod Asked
 pub mod Results

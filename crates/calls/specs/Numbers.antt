@@ -1,5 +1,5 @@
 -- Numbers in a call.
-use Rattle.std.specs.Prelude.{ℕ, ◌+◌, ◌-◌, ◌*◌, Bool, true, cond, ◌&&◌, List, [], ◌∷◌, length, ℤ, negsuc, nat_le, nat_lt}
+use Rattle.std.specs.Prelude.{ℕ, ◌+◌, ◌-◌, ◌*◌, Bool, true, cond, ◌&&◌, List, [], ◌∷◌, length, nat_le, nat_lt, Option, Some, None}
 use Rattle.calls.specs.Text.{word_of}
 
 -- 0 to 9
@@ -32,18 +32,6 @@ number_of s = cond (is_number s) (value_of s) 0
 unfoldable pub all_numbers : List ℕ → Bool
 all_numbers s = is_number (word_of s 2) && is_number (word_of s 3) && is_number (word_of s 4) && is_number (word_of s 5)
 
--- "Where the next number of a call is told to be none: nowhere, where one before it was."
-abbrev pub err_after : Bool → ℤ → ℤ
-err_after good err = cond good err (negsuc 0)
-
--- how the numbers are read: "What a digit stands for; 10 for what is none."
-abbrev pub digit_of : ℕ → ℕ
-digit_of b = cond (is_digit b) (b - 48) 10
-
--- what "does not fit 32 bits" as 2 ^ 32
-abbrev pub capped : ℕ → ℕ
-capped n = cond (nat_lt n 4294967296) n 4294967296
-
--- the number, or "2 ^ 32 where it is no number or does not fit 32 bits"
-unfoldable pub parsed_of : List ℕ → ℕ
-parsed_of s = cond (is_number s) (value_of s) 4294967296
+-- the number of 32 bits that the digits stand for, where there is one
+unfoldable pub number_in : List ℕ → Option ℕ
+number_in s = cond (is_number s) (Some (value_of s)) None

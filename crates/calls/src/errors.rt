@@ -1,18 +1,27 @@
 // Why a call of the system failed, in words.
-use crate::texts;
+use crate::output::Descriptor;
+use crate::results::Failure;
+use std::fmt;
+use std::fmt::Write;
+use std::io::Error;
 
-// A line: what failed, and why by its errno; 0 for what has none.
-pub fn failed(err: i32, what: &[u8], why: std::io::Error) {
-    let k = match why.raw_os_error().unwrap_or(0) {
-        2 => texts::REASON,
-        13 => texts::REASON + 1,
-        20 => texts::REASON + 2,
-        21 => texts::REASON + 3,
-        28 => texts::REASON + 4,
-        30 => texts::REASON + 5,
-        36 => texts::REASON + 6,
-        _ => texts::REASON + 7,
+fn tell(mut err: Descriptor, what: &[u8], reason: &str) -> fmt::Result {
+    err.put(what)?;
+    writeln!(err, ": {reason}")
+}
+
+// A line: what failed, and why by its errno.
+pub fn failed(err: Descriptor, what: &[u8], why: Error) -> Failure {
+    let reason = match why.raw_os_error() {
+        Some(2) => "No such file or directory",
+        Some(13) => "Permission denied",
+        Some(20) => "Not a directory",
+        Some(21) => "Is a directory",
+        Some(28) => "No space left on device",
+        Some(30) => "Read-only file system",
+        Some(36) => "File name too long",
+        _ => "it cannot be read or written",
     };
-    let to = texts::put(err, what);
-    texts::say(to, k, 0, 0, 0, 0);
+    let _ = tell(err, what, reason);
+    Failure
 }

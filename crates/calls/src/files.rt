@@ -1,8 +1,10 @@
 // Files: reading one whole, and replacing one or two. A path is text: one that is no UTF-8 is told as one that cannot be read or written.
-ghost use Rattle.std.specs.Prelude.{◌≤◌, length};
+ghost use Rattle.std.specs.Prelude.{◌≤◌, length, IfOk};
 ghost use Rattle.io.specs.Counts.{IsPrefixLen};
 
 use crate::errors;
+use crate::output::Descriptor;
+use crate::results::{Failure, Tried};
 use std::fs;
 use std::fs::{OpenFile, OpenOptions};
 use std::io::{Error, ErrorKind, Read, Result, Write};
@@ -10,13 +12,24 @@ use std::os::unix::fs::OpenOptionsExt;
 use std::random::RandomSource;
 use std::rt::Files;
 
-// How many bytes stand at the start of the buffer, how many of the file stand behind them, if that was asked, and whether they are the whole file, or, if it
-// was not asked, as much of it as the buffer holds.
+// How many bytes of a file stand at the start of the buffer, and how many of it stand behind them.
 #[derive(Clone, Copy)]
-pub struct Bytes {
+pub struct Loaded {
     pub n: usize,
     pub more: usize,
-    pub whole: bool,
+}
+
+// Which of two files could not be replaced.
+#[derive(Clone, Copy, PartialEq, Eq)]
+pub enum Unreplaced {
+    Both,
+    Second,
+}
+
+impl From<Failure> for Unreplaced {
+    fn from(_failure: Failure) -> Unreplaced {
+        Unreplaced::Both
+    }
 }
 
 // So many names are tried for a new file.
@@ -41,144 +54,84 @@ fn open_update<R: Files>(rt: &R, path: &[u8]) -> Result<R::File> {
     how.open(rt, text_of(path)?)
 }
 
-// After n bytes came: fewer than the buffer holds come both where a file ends and where a read fails. One more read tells the two apart,
-// and a failure is told. What a full buffer does not hold is looked at only of a long file.
-fn is_whole(file: &mut impl Read, path: &[u8], n: usize, long: bool, err: i32) -> bool {
-    if (n == 65536) & !long {
-        return true;
-    }
-    let mut one = [0u8; 1];
-    match file.read(&mut one) {
-        Ok(0) => true,
-        Ok(_) => {
-            errors::failed(err, path, Error::from(ErrorKind::Other));
-            false
-        }
-        Err(why) => {
-            errors::failed(err, path, why);
-            false
-        }
-    }
-}
-
-// What one read put at the start of the buffer; 0 where it fails.
-fn read_some(file: &mut impl Read, buf: &mut [u8]) -> usize
-    ensures { IsPrefixLen result buf.new }
+// Reads until the buffer is full or the file ends. Answers how many bytes stand at its start.
+fn read_full(file: &mut impl Read, buf: &mut [u8]) -> Result<usize>
+    ensures { IfOk result (λ n. IsPrefixLen n buf.new) }
 {
-    match file.read(buf) {
-        Ok(n) => n,
-        Err(_) => 0,
-    }
-}
-
-// Reads until the buffer is full, the file ends or a read fails. Answers how many bytes stand at its start.
-fn read_full(file: &mut impl Read, buf: &mut [u8]) -> usize
-    ensures { IsPrefixLen result buf.new }
-{
-    let mut done: usize = 0;
+    let mut done = 0;
     while done < buf.len() {
-        let n = read_some(file, &mut buf[done..]);
+        let n = file.read(&mut buf[done..])?;
         if n == 0 {
-            return done;
+            break;
         }
         done += n;
     }
-    done
+    Ok(done)
 }
 
 // The next bytes are read and forgotten. Answers how many there were, 0 at the end.
-fn pass_over(file: &mut impl Read) -> usize {
+fn pass_over(file: &mut impl Read) -> Result<usize> {
     let mut passed = io::large_buffer();
     read_full(file, &mut passed)
 }
 
 // Reads on to the end, and answers how many bytes there were. No file is so long that its turns end first.
-fn read_on(file: &mut impl Read) -> usize {
+fn read_on(file: &mut impl Read) -> Result<usize> {
     let mut more: usize = 0;
-    let mut turn: u32 = 0;
-    while turn < 4294967295 {
-        let n = pass_over(file);
+    for _turn in 0..u32::MAX {
+        let n = pass_over(file)?;
         if n == 0 {
-            return more;
+            break;
         }
-        more = std::num::wrapping_add_usize(more, n);
-        turn += 1;
+        more = more.wrapping_add(n);
     }
-    more
+    Ok(more)
 }
 
-// The bytes of a file that is open.
-fn load_from(
-    file: &mut impl Read,
-    path: &[u8],
-    long: bool,
-    err: i32,
-    buf: &mut [u8; 65536],
-) -> Bytes
-    ensures { IsPrefixLen result.n buf.new }
+fn read_start(rt: &impl Files, path: &[u8], buf: &mut [u8; 65536]) -> Result<usize>
+    ensures { IfOk result (λ n. IsPrefixLen n buf.new) }
 {
-    let n = read_full(file, buf);
-    let more = if long { read_on(file) } else { 0 };
-    let whole = is_whole(file, path, n, long, err);
-    Bytes { n, more, whole }
+    let mut file = open_read(rt, path)?;
+    read_full(&mut file, buf)
 }
 
-fn load_by(rt: &impl Files, path: &[u8], long: bool, err: i32, buf: &mut [u8; 65536]) -> Bytes
-    ensures { IsPrefixLen result.n buf.new }
+fn read_long(rt: &impl Files, path: &[u8], buf: &mut [u8; 65536]) -> Result<Loaded>
+    ensures { IfOk result (λ loaded. IsPrefixLen loaded.n buf.new) }
 {
-    match open_read(rt, path) {
-        Ok(mut file) => load_from(&mut file, path, long, err, buf),
-        Err(why) => {
-            errors::failed(err, path, why);
-            Bytes {
-                n: 0,
-                more: 0,
-                whole: false,
-            }
-        }
-    }
+    let mut file = open_read(rt, path)?;
+    let n = read_full(&mut file, buf)?;
+    let more = read_on(&mut file)?;
+    Ok(Loaded { n, more })
 }
 
-// The file at a path. Where it cannot be read, that is told.
-pub fn load(rt: &impl Files, path: &[u8], err: i32, buf: &mut [u8; 65536]) -> Bytes
-    ensures { IsPrefixLen result.n buf.new }
+// The file at a path, or as much of it as the buffer holds: how many bytes stand at its start. Where it cannot be read, that is told.
+pub fn load(rt: &impl Files, path: &[u8], err: Descriptor, buf: &mut [u8; 65536]) -> Tried<usize>
+    ensures { IfOk result (λ n. IsPrefixLen n buf.new) }
 {
-    load_by(rt, path, false, err, buf)
+    read_start(rt, path, buf).map_err(|why| errors::failed(err, path, why))
 }
 
 // The same of a file of any length, which is read to its end.
-pub fn load_long(rt: &impl Files, path: &[u8], err: i32, buf: &mut [u8; 65536]) -> Bytes
-    ensures { IsPrefixLen result.n buf.new }
+pub fn load_long(
+    rt: &impl Files,
+    path: &[u8],
+    err: Descriptor,
+    buf: &mut [u8; 65536],
+) -> Tried<Loaded>
+    ensures { IfOk result (λ loaded. IsPrefixLen loaded.n buf.new) }
 {
-    load_by(rt, path, true, err, buf)
+    read_long(rt, path, buf).map_err(|why| errors::failed(err, path, why))
 }
 
-// A device, for reading and writing. Where it cannot be opened, that is told, and there is none.
-pub fn open<R: Files>(rt: &R, path: &[u8], err: i32) -> Option<R::File> {
-    match open_update(rt, path) {
-        Ok(file) => Some(file),
-        Err(why) => {
-            errors::failed(err, path, why);
-            None
-        }
-    }
+// A device, for reading and writing. Where it cannot be opened, that is told.
+pub fn open<R: Files>(rt: &R, path: &[u8], err: Descriptor) -> Tried<R::File> {
+    open_update(rt, path).map_err(|why| errors::failed(err, path, why))
 }
 
-// What is written has reached its device.
-fn settled<F: Write + OpenFile>(file: &mut F, bytes: &[u8]) -> Result<()> {
+// The new file is filled, and its bytes have reached their device.
+fn fill<F: Write + OpenFile>(file: &mut F, bytes: &[u8]) -> Result<()> {
     file.write_all(bytes)?;
     file.sync_all()
-}
-
-// The new file is filled, and its bytes have reached their device. What fails is told.
-fn filled<F: Write + OpenFile>(file: &mut F, name: &[u8], bytes: &[u8], err: i32) -> bool {
-    match settled(file, bytes) {
-        Ok(()) => true,
-        Err(why) => {
-            errors::failed(err, name, why);
-            false
-        }
-    }
 }
 
 // A letter of the 52, by a number.
@@ -198,16 +151,10 @@ fn name_beside(path: &[u8], name: &mut [u8], drawn: [u8; 6]) {
         return;
     }
     name[..n].copy_from_slice(path);
-    let ending = [
-        b'.',
-        letter(drawn[0]),
-        letter(drawn[1]),
-        letter(drawn[2]),
-        letter(drawn[3]),
-        letter(drawn[4]),
-        letter(drawn[5]),
-    ];
-    name[n..n + 7].copy_from_slice(&ending);
+    name[n] = b'.';
+    for k in 0..6 {
+        name[n + 1 + k] = letter(drawn[k]);
+    }
 }
 
 // A new file, which nobody else may read, under a name that no file has.
@@ -251,21 +198,14 @@ fn make(
     path: &[u8],
     name: &mut [u8],
     bytes: &[u8],
-    err: i32,
-) -> bool {
-    match create_beside(rt, path, name) {
-        Ok(mut file) => {
-            if filled(&mut file, name, bytes, err) {
-                return true;
-            }
-            remove(rt, name);
-            false
-        }
-        Err(why) => {
-            errors::failed(err, path, why);
-            false
-        }
+    err: Descriptor,
+) -> Tried<()> {
+    let mut file = create_beside(rt, path, name).map_err(|why| errors::failed(err, path, why))?;
+    let filled = fill(&mut file, bytes).map_err(|why| errors::failed(err, name, why));
+    if filled.is_err() {
+        remove(rt, name);
     }
+    filled
 }
 
 // The file at the name is removed, if it can be.
@@ -281,110 +221,73 @@ fn rename(rt: &impl Files, name: &[u8], path: &[u8]) -> Result<()> {
 
 // It is renamed over the path: whoever opens that finds the old file or the new one, whole. Where that fails, the old file stays, the new one is removed
 // and why is told.
-fn put_over(rt: &impl Files, name: &[u8], path: &[u8], err: i32) -> bool {
-    match rename(rt, name, path) {
-        Ok(()) => true,
-        Err(why) => {
-            errors::failed(err, path, why);
-            remove(rt, name);
-            false
-        }
+fn put_over(rt: &impl Files, name: &[u8], path: &[u8], err: Descriptor) -> Tried<()> {
+    let renamed = rename(rt, name, path).map_err(|why| errors::failed(err, path, why));
+    if renamed.is_err() {
+        remove(rt, name);
     }
+    renamed
 }
 
 // How long the new name is, seven bytes more than the path: all of its buffer, which is no path, where that has no room.
-fn size_beside(path: &[u8]) -> usize {
-    let n = path.len();
-    if n > 4089 {
-        return 4096;
-    }
-    n + 7
-}
-
-// The name is the first n bytes of a buffer. So a new file is made, put over its path, and removed.
-fn make_part(
-    rt: &(impl Files + RandomSource),
-    path: &[u8],
-    name: &mut [u8],
-    n: usize,
-    bytes: &[u8],
-    err: i32,
-) -> bool {
-    if n <= name.len() {
-        return make(rt, path, &mut name[..n], bytes, err);
-    }
-    false
-}
-
-fn put_part(rt: &impl Files, name: &[u8], n: usize, path: &[u8], err: i32) -> bool {
-    if n <= name.len() {
-        return put_over(rt, &name[..n], path, err);
-    }
-    false
-}
-
-fn remove_part(rt: &impl Files, name: &[u8], n: usize) {
-    if n <= name.len() {
-        remove(rt, &name[..n]);
-    }
+fn size_beside(path: &[u8]) -> usize
+    ensures { result ≤ 4096 }
+{
+    path.len().saturating_add(7).min(4096)
 }
 
 // The file at path, replaced.
-pub fn replace(rt: &(impl Files + RandomSource), path: &[u8], bytes: &[u8], err: i32) -> bool {
-    let mut name = io::buffer();
-    let n = size_beside(path);
-    if make_part(rt, path, &mut name, n, bytes, err) {
-        return put_part(rt, &name, n, path, err);
-    }
-    false
+pub fn replace(
+    rt: &(impl Files + RandomSource),
+    path: &[u8],
+    bytes: &[u8],
+    err: Descriptor,
+) -> Tried<()> {
+    let mut room = io::buffer();
+    let name = &mut room[..size_beside(path)];
+    make(rt, path, name, bytes, err)?;
+    put_over(rt, name, path, err)
 }
 
-// The files at two paths, replaced: both new ones are made and filled before the first is renamed, so that what fails until then changes neither. Answers
-// how many are replaced: 1 where the second could not be renamed after the first. What is not put over its path is removed.
+// The files at two paths, replaced: both new ones are made and filled before the first is renamed, so that what fails until then changes neither. The
+// second alone is not replaced where it could not be renamed after the first. What is not put over its path is removed.
 pub fn replace_two(
     rt: &(impl Files + RandomSource),
     path: &[u8],
     bytes: &[u8],
     path2: &[u8],
     bytes2: &[u8],
-    err: i32,
-) -> usize {
-    let mut name = io::buffer();
-    let n = size_beside(path);
-    if !make_part(rt, path, &mut name, n, bytes, err) {
-        return 0;
+    err: Descriptor,
+) -> std::result::Result<(), Unreplaced> {
+    let mut room = io::buffer();
+    let name = &mut room[..size_beside(path)];
+    make(rt, path, name, bytes, err)?;
+    let mut room2 = io::buffer();
+    let name2 = &mut room2[..size_beside(path2)];
+    if let Err(failure) = make(rt, path2, name2, bytes2, err) {
+        remove(rt, name);
+        return Err(Unreplaced::from(failure));
     }
-    let mut name2 = io::buffer();
-    let n2 = size_beside(path2);
-    if !make_part(rt, path2, &mut name2, n2, bytes2, err) {
-        remove_part(rt, &name, n);
-        return 0;
+    if let Err(failure) = put_over(rt, name, path, err) {
+        remove(rt, name2);
+        return Err(Unreplaced::from(failure));
     }
-    if !put_part(rt, &name, n, path, err) {
-        remove_part(rt, &name2, n2);
-        return 0;
-    }
-    if put_part(rt, &name2, n2, path2, err) {
-        2
-    } else {
-        1
+    match put_over(rt, name2, path2, err) {
+        Ok(()) => Ok(()),
+        Err(_) => Err(Unreplaced::Second),
     }
 }
 
 // How much of a text that was read is judged: all, or of one that fills the buffer its whole lines. A list of 64 lines at most fills none, so that such a
 // text has more lines, or a misspelt one, and is refused in any case.
-pub fn kept(text: &[u8]) -> usize
-    ensures { result ≤ length text.now }
+pub fn kept(text: &[u8]) -> &[u8]
+    ensures { length result.now ≤ length text.now }
 {
-    let mut n = text.len();
-    if n < 65536 {
-        return n;
+    if text.len() < 65536 {
+        return text;
     }
-    while 0 < n {
-        if text[n - 1] == b'\n' {
-            return n;
-        }
-        n -= 1;
+    match text.iter().rposition(|&byte| byte == b'\n') {
+        Some(last) => &text[..last + 1],
+        None => text,
     }
-    text.len()
 }

@@ -1,44 +1,84 @@
 // What came of a call.
 ghost use Rattle.calls.specs.Results.{status_by};
+ghost use Rattle.calls.specs.declared.results.Status.TheVariants.{NotTried};
 ghost use Rattle.std.specs.Prelude.{◌≡◌, false};
 
-use crate::texts;
+use crate::output::Descriptor;
+use std::fmt;
+use std::fmt::Write;
 
-// status: 0 answered, 1 refused or found to differ, 2 not tried or not told. replaced: whether a file was.
+// Answered; refused, or found to differ; not tried, or not told.
+#[derive(Clone, Copy, PartialEq, Eq)]
+pub enum Status {
+    Answered,
+    Refused,
+    NotTried,
+}
+
+impl Status {
+    // As the system's programs tell it.
+    pub fn number(self) -> u8 {
+        match self {
+            Status::Answered => 0,
+            Status::Refused => 1,
+            Status::NotTried => 2,
+        }
+    }
+}
+
+// replaced: whether a file was.
 #[derive(Clone, Copy)]
 pub struct Outcome {
-    pub status: usize,
+    pub status: Status,
     pub replaced: bool,
 }
 
+impl fmt::Display for Outcome {
+    fn fmt<W: fmt::Write>(&self, f: &mut fmt::Formatter<W>) -> fmt::Result {
+        let number = self.status.number();
+        write!(f, "{number}")?;
+        if self.replaced {
+            write!(f, " replaced")?;
+        }
+        Ok(())
+    }
+}
+
+// A call that could not be tried; why was told when it was found.
+#[derive(Clone, Copy, PartialEq, Eq)]
+pub struct Failure;
+
+pub type Tried<T> = Result<T, Failure>;
+
 pub fn not_tried() -> Outcome
-    ensures { (result.status ≡ 2) × (result.replaced ≡ false) }
+    ensures { (result.status ≡ NotTried) × (result.replaced ≡ false) }
 {
     Outcome {
-        status: 2,
+        status: Status::NotTried,
         replaced: false,
     }
 }
 
-// An answer went to `out`, which is -1 where not all of it was written; then that is told, and it counts for nothing.
-pub fn answered(status: usize, replaced: bool, out: i32, err: i32) -> Outcome
-    ensures { (result.status ≡ status_by out status) × (result.replaced ≡ replaced) }
+// written: whether all of the answer was. Where it was not, that is told, and the answer counts for nothing.
+pub fn answered(
+    status: Status,
+    replaced: bool,
+    written: fmt::Result,
+    mut err: Descriptor,
+) -> Outcome
+    ensures { (result.status ≡ status_by written status) × (result.replaced ≡ replaced) }
 {
-    if out < 0 {
-        texts::say(err, texts::LOST, 0, 0, 0, 0);
-        return Outcome {
-            status: 2,
-            replaced,
-        };
+    if written.is_ok() {
+        return Outcome { status, replaced };
     }
-    Outcome { status, replaced }
+    let _ = writeln!(err, "ninhalto: the answer could not be written");
+    Outcome {
+        status: Status::NotTried,
+        replaced,
+    }
 }
 
 // As a line: the status, with `replaced` after it where a file was.
-pub fn tell(to: i32, o: Outcome) {
-    if o.replaced {
-        texts::say(to, texts::STATUS + 1, o.status, 0, 0, 0);
-    } else {
-        texts::say(to, texts::STATUS, o.status, 0, 0, 0);
-    }
+pub fn tell(mut to: Descriptor, outcome: Outcome) {
+    let _ = writeln!(to, "{outcome}");
 }

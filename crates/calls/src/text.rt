@@ -8,14 +8,12 @@ pub fn find(text: &[u8], from: usize, byte: u8) -> usize
     ensures place { result ≡ from + length (until byte (drop from text.now)) }
     ensures in_bounds { (from ≤ result) × (result ≤ length text.now) }
 {
-    let mut at = from;
-    while at < text.len() {
+    for at in from..text.len() {
         if text[at] == byte {
             return at;
         }
-        at += 1;
     }
-    at
+    text.len()
 }
 
 // Where the word that begins at `from` ends: at its zero byte, or where the call ends.
@@ -42,11 +40,9 @@ fn after(call: &[u8], from: usize) -> usize
 fn start_of(call: &[u8], i: usize) -> usize
     ensures { (drop result call.now ≡ rest_at call.now i) × (result ≤ length call.now) }
 {
-    let mut at: usize = 0;
-    let mut k: usize = 0;
-    while k < i {
+    let mut at = 0;
+    for _k in 0..i {
         at = after(call, at);
-        k += 1;
     }
     at
 }
@@ -64,13 +60,11 @@ pub fn word(call: &[u8], i: usize) -> &[u8]
 pub fn count(call: &[u8]) -> usize
     ensures { result ≡ count_of call.now }
 {
-    let mut n: usize = 0;
-    let mut i: usize = 0;
-    while i < call.len() {
-        if call[i] == 0 {
+    let mut n = 0;
+    for &byte in call {
+        if byte == 0 {
             n += 1;
         }
-        i += 1;
     }
     n
 }
@@ -79,14 +73,12 @@ pub fn count(call: &[u8]) -> usize
 pub fn which(name: &[u8], list: &[u8], n: usize) -> usize
     ensures { result ≡ which_of name.now list.now n }
 {
-    let mut k: usize = 0;
-    while k < n {
+    for k in 0..n {
         if check::same(name, word(list, k)) {
             return k;
         }
-        k += 1;
     }
-    k
+    n
 }
 
 // The call from word i on.

@@ -1,10 +1,19 @@
--- `numbers::block_and_pool` meets its contract. Assumes nothing.
-use Rattle.calls.proofs.Digits.{all-good}
+use Rattle.std.proofs.Common.{arith}
+use Rattle.std.proofs.lemmas.Grind.{common_steps}
+use Rattle.calls.proofs.Digits.{all-each, each-all}
 use Rattle.calls.proofs.numbers.block_and_pool.Goals as goal
 
-pub returns : goal.returns
-returns c =
-    let p = c.word-length.ensures in
-    let q = c.word-start.ensures in
-    let r = c.word-pool_start.ensures in
-    let s = c.word-pool_end.ensures in record { start_value = (q.0, p.0); pool_start_value = (r.0, s.0); good_value = all-good _ _ _ _ _ q.1 p.1 r.1 s.1 }
+pub returns-in_err-word-clause-some : goal.returns-in_err-word-clause-some
+returns-in_err-word-clause-some c = grind (arith, common_steps, all-each c.args.call.now)
+
+pub returns-in_err-word-2-clause-some : goal.returns-in_err-word-2-clause-some
+returns-in_err-word-2-clause-some c = grind (arith, common_steps, all-each c.args.call.now)
+
+pub returns-in_err-word-3-clause-some : goal.returns-in_err-word-3-clause-some
+returns-in_err-word-3-clause-some c = grind (arith, common_steps, all-each c.args.call.now)
+
+pub returns-in_err-word-4-clause-some : goal.returns-in_err-word-4-clause-some
+returns-in_err-word-4-clause-some c = grind (arith, common_steps, all-each c.args.call.now)
+
+pub returns-clause-some : goal.returns-clause-some
+returns-clause-some c = grind (arith, common_steps, each-all c.args.call.now)

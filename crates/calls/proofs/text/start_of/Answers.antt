@@ -5,14 +5,14 @@ use Rattle.calls.proofs.text.start_of.Goals as goal
 
 pub loop-k-init : goal.loop-k-init
 unfolding rest_at
-loop-k-init c = (refl, omega arith, omega arith)
+loop-k-init c = (refl, omega arith)
 
 pub loop-k-preserved : goal.loop-k-preserved
 loop-k-preserved c =
     let l = c.loop-k in
-    (word_more _ l.at c.after-at.result l.k l.invariant.0 c.after-at.ensures.0, c.after-at.ensures.1, omega arith)
+    (word_more _ l.at c.after-at.result l._k l.invariant.0 c.after-at.ensures.0, c.after-at.ensures.1)
 
 pub returns : goal.returns
 returns c =
     let l = c.loop-k in
-    (word-found _ l.at l.k _ l.invariant.2 c.loop-k-test.false l.invariant.0, l.invariant.1)
+    (word-found _ l.at l._k _ (omega arith) (omega arith) l.invariant.0, l.invariant.1)

@@ -1,9 +1,0 @@
--- What is left of the text falls. Assumes nothing.
-use Rattle.std.proofs.Common.{◌≤◌, length}
-use Rattle.calls.proofs.files.kept.Given as goal
-
-abbrev pub invariant-loop-n : goal.invariant-loop-n
-invariant-loop-n l = l.n ≤ length l.text
-
-abbrev pub decreases-loop-n : goal.decreases-loop-n
-decreases-loop-n l = l.n
