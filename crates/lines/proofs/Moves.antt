@@ -15,10 +15,9 @@ use Rattle.ec20.specs.Operands.{first_bad}
 use Rattle.ec20.specs.Found.{Found}
 use Rattle.ec20.specs.Found.{At, Nowhere}
 use Rattle.ec20.specs.Judged.{Judged}
-use Rattle.ec20.specs.Judged.{Fine, Fault}
+use Rattle.ec20.specs.Judged.{Fine}
 use Rattle.ec20.specs.Moved.{Moved}
 use Rattle.ec20.specs.Verdict.{Verdict}
-use Rattle.ec20.specs.Verdict.{Accepted, Refused as Unfit}
 use Rattle.lines.proofs.LineLaws.{judged-10, judged-11, judged-12, judged-13, some_words, pool-order, pool-words}
 use Rattle.lines.specs.Lines.{Line10, Line11, Line12, Line13}
 use Rattle.lines.specs.Table.{Passes, Not10, Not11, Not12, Not13, Told, told_1_8, told_10, told_11, told_12, told_13, told_14, moved}
