@@ -2,8 +2,12 @@
 use Prim.Native.Nat.{ℕ}
 use mathlib.Core.Bool.{Bool, true, false}
 use mathlib.Core.List.{List}
-use mathlib.Core.Path.{◌≡◌, refl, sym, ◌∙◌}
+use mathlib.Core.Path.{◌≡◌, refl, sym, ap₂, ◌∙◌}
 use native.Mathlib.Omega.{arith}
+use Rattle.std.specs.Prelude.{Result, Ok, Err}
+use Rattle.checker.specs.Accepted.{accepted_of}
+use Rattle.ec20.specs.declared.Frame.{Frame as WholeFrame}
+use Rattle.ec20.specs.declared.Refusal.{Refusal}
 use Rattle.ec20.proofs.Parts.{whole-parts}
 use Rattle.ec20.proofs.NoFault.{accepted-framed as framed-if, accepted-records}
 use Rattle.ec20.specs.Basics.{pick}
@@ -50,3 +54,20 @@ module _ (f : List ℕ) where
   pub not-broken : {A : Type 0} {x : Frame} → framed f ≡ true → x ≡ frame_of f → x ≡ Broken → A
   unfolding frame_of
   not-broken h g e = apart (let q : Broken ≡ Whole (first_of f) (count_of f) = sym e ∙ g ∙ rw h refl in q)
+
+  -- a framed file has a whole frame
+  pub framed-whole : framed f ≡ true → Whole (first_of f) (count_of f) ≡ frame_of f
+  unfolding frame_of
+  framed-whole h = rw h refl
+
+  -- what is told of an accepted file
+  pub accepted-frame : {n w first count : ℕ} → Accepted n w ≡ check_of f → Whole first count ≡ frame_of f
+      → ◌≡◌ {A = Result WholeFrame Refusal} (Ok (record { first = first; count = count })) (accepted_of f)
+  unfolding accepted_of
+  accepted-frame e g =
+      let h = whole-names g refl in
+      rw (sym e) (ap₂ (λ (i n : ℕ). let x : Result WholeFrame Refusal = Ok (record { first = i; count = n }) in x) h.0 h.1)
+
+  pub accepted-not : {d : Refusal} → ◌≡◌ {A = Verdict} (Err d) (check_of f) → ◌≡◌ {A = Result WholeFrame Refusal} (Err d) (accepted_of f)
+  unfolding accepted_of
+  accepted-not e = rw (sym e) refl

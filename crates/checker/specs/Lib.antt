@@ -1,2 +1,3 @@
 -- The check in stages.
 pub mod Stages
+pub mod Accepted

@@ -2,7 +2,8 @@
 #![tactic(auto)]
 
 ghost use Rattle.std.specs.Prelude.{◌≤◌, length, ◌≡◌};
-ghost use Rattle.checker.specs.Stages.{stage, from_jumps, from_loops, from_rungs, from_records};
+ghost use Rattle.checker.specs.Accepted.{accepted_of};
+ghost use Rattle.checker.specs.Stages.{from_records};
 ghost use Rattle.ec20.specs.Check.{check_of};
 ghost use Rattle.ec20.specs.Code.{program_in};
 ghost use Rattle.ec20.specs.Control.{controls_of};
@@ -45,4 +46,12 @@ pub fn check(f: &[u8]) -> Result<Accepted, Refusal>
     };
     let rows = instructions::table();
     judge(&rows, f, first, count)
+}
+
+// Of a file that the check accepts where its records begin, and how many there are; of any other why it is refused.
+pub fn accept(f: &[u8]) -> Result<Frame, Refusal>
+    ensures { result ≡ accepted_of f.now }
+{
+    check(f)?;
+    Ok(records::frame(f).unwrap())
 }
