@@ -7,7 +7,7 @@ use Rattle.ec20.specs.Basics.{then}
 use Rattle.ec20.specs.declared.Instr.{Instr}
 use Rattle.ec20.specs.declared.Instr.TheVariants.{Nop, Contact, Compare, Join, Branch, Coil, Timer, For, Next, Jump, Label, End, Word}
 use Rattle.ec20.specs.Judged.{Judged}
-use Rattle.ec20.specs.Judged.{Fine, Fault}
+use Rattle.ec20.specs.Judged.{Fine}
 use Rattle.ec20.specs.declared.Rung.{Rung}
 use Rattle.ec20.specs.Verdict.{Accepted}
 use Rattle.ec20.specs.Check.{judge_program, verdict_of}

@@ -9,7 +9,7 @@ use Rattle.torn.specs.Salvaged.{Refused, Done}
 -- the same answer with so many bytes more in the rest
 abbrev pub with_more : ℕ → Salvaged → Salvaged
 with_more n (Err r) = Refused r.number r.at
-with_more n (Ok a2) = Done a2.kept a2.added (a2.rest + n)
+with_more n (Ok a) = Done a.kept a.added (a.rest + n)
 
 -- of a file that begins with t, 2,001 records or more, and goes on with u
 abbrev pub Beyond : Device → Type 0
