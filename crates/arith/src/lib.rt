@@ -5,33 +5,28 @@
 
 ghost use Rattle.std.specs.Prelude.{◌≡◌, ◌+◌, ◌<◌, ◌≤◌, ◌^◌, pos, ◌+ℤ◌, ◌-ℤ◌, ◌*ℤ◌};
 ghost use Rattle.std.specs.Int.Signed.{mag};
-ghost use Rattle.ec20.specs.Basics.{one_if};
 ghost use Rattle.ec20.specs.Numbers.{wrap, root_of};
 ghost use Rattle.ec20.specs.Words.{value, values, failure, flagged, sum_of, div_of, rooted, sqt_of, vabs_of, neg_of};
 
 use ec20::Outcome;
 
-// 1 for true, 0 for false.
-fn bit(b: bool) -> usize
-    ensures { result ≡ one_if b }
-{
-    if b { 1 } else { 0 }
-}
+// No error, no value, no flags.
+const NONE: Outcome = Outcome {
+    error: 0,
+    value: 0,
+    second: 0,
+    two: 0,
+    flags: 0,
+    zero: 0,
+    above: 0,
+    below: 0,
+};
 
 // One value and no flags.
 pub fn stored(z: i64) -> Outcome
     ensures { result ≡ value z }
 {
-    Outcome {
-        error: 0,
-        value: z,
-        second: 0,
-        two: 0,
-        flags: 0,
-        zero: 0,
-        above: 0,
-        below: 0,
-    }
+    Outcome { value: z, ..NONE }
 }
 
 // Two values, the second for the place after the target, and no flags.
@@ -39,14 +34,10 @@ fn both(z: i64, y: i64) -> Outcome
     ensures { result ≡ values z y }
 {
     Outcome {
-        error: 0,
         value: z,
         second: y,
         two: 1,
-        flags: 0,
-        zero: 0,
-        above: 0,
-        below: 0,
+        ..NONE
     }
 }
 
@@ -54,34 +45,20 @@ fn both(z: i64, y: i64) -> Outcome
 fn refused(e: usize) -> Outcome
     ensures { result ≡ failure e }
 {
-    Outcome {
-        error: e,
-        value: 0,
-        second: 0,
-        two: 0,
-        flags: 0,
-        zero: 0,
-        above: 0,
-        below: 0,
-    }
+    Outcome { error: e, ..NONE }
 }
 
 // One value with its three flags.
 fn judged(z: i64, zero: bool, above: bool, below: bool) -> Outcome
     ensures { result ≡ flagged z zero above below }
 {
-    let on180 = bit(zero);
-    let on181 = bit(above);
-    let on182 = bit(below);
     Outcome {
-        error: 0,
         value: z,
-        second: 0,
-        two: 0,
         flags: 1,
-        zero: on180,
-        above: on181,
-        below: on182,
+        zero: usize::from(zero),
+        above: usize::from(above),
+        below: usize::from(below),
+        ..NONE
     }
 }
 
@@ -167,12 +144,12 @@ fn root(n: u64) -> u64
     let mut place: u32 = if rest < 65536 { 16384 } else { 1073741824 };
     while place > 0 {
         let more = r + place;
-        r = r >> 1;
+        r >>= 1;
         if more <= rest {
             rest -= more;
             r += place;
         }
-        place = place >> 2;
+        place >>= 2;
     }
     r as u64
 }

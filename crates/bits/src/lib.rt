@@ -60,12 +60,10 @@ fn fewer(bits: &[u8], at: usize) -> u64
     ensures { result ≡ packed bits.now (8 * at) 64 }
 {
     let mut v: u64 = 0;
-    let mut i = 0;
-    while i < 8 {
+    for i in 0..8 {
         if at + i < bits.len() {
-            v = v | ((bits[at + i] as u64) << (8 * i));
+            v |= (bits[at + i] as u64) << (8 * i);
         }
-        i += 1;
     }
     v
 }
@@ -111,12 +109,10 @@ fn put_fewer(bits: &mut [u8], at: usize, v: u64)
     requires { (at < 2 ^ 63) × ((k : ℕ) → get_or bits.old k 0 < 256) }
     ensures { bits.new ≡ spread bits.old (8 * at) 64 v }
 {
-    let mut i = 0;
-    while i < 8 {
+    for i in 0..8 {
         if at + i < bits.len() {
             bits[at + i] = ((v >> (8 * i)) % 256) as u8;
         }
-        i += 1;
     }
 }
 
@@ -157,7 +153,7 @@ fn group_size(n: usize, w: usize) -> usize
     ensures { (result ≡ group_size w n) × (result ≤ 32) }
 {
     let all = width(w);
-    if n <= all / 4 { 4 * n } else { all }
+    4 * n.min(all / 4)
 }
 
 // The number in the group of size n from number first on, as one of width w.

@@ -8,10 +8,11 @@ ghost use Rattle.instructions.specs.Cells.{cells};
 
 use ec20::{Place, Row};
 
-// A row is: 1 if the number is known; the form of instruction that it makes; then role, width in bits and D words of each of the three places. The roles are: 0 unused, 1 a bit
-// that is read, 2 a bit that is written, 3 source, 4 target, 5 target that is also read, 6 quotient and remainder, 7 timer, 8 units of a timer,
-// 9 passes of a loop, 10 label. The forms are: 0 none, 1 contact, 2 join, 3 branch, 4 coil, 5 compare, 6 timer, 7 FOR, 8 NEXT, 9 jump,
-// 10 label, 11 END, and the word instructions: 12 two sources and a target, 13 a source and a target, 14 a target that is also read.
+// A row is: 1 if the number is known; the form of instruction that it makes; then role, width in bits and D words of each of the three
+// places. The roles are: 0 unused, 1 a bit that is read, 2 a bit that is written, 3 source, 4 target, 5 target that is also read, 6 quotient
+// and remainder, 7 timer, 8 units of a timer, 9 passes of a loop, 10 label. The forms are: 0 none, 1 contact, 2 join, 3 branch, 4 coil,
+// 5 compare, 6 timer, 7 FOR, 8 NEXT, 9 jump, 10 label, 11 END, and the word instructions: 12 two sources and a target, 13 a source and a
+// target, 14 a target that is also read.
 const TABLE: [[u8; 11]; 56] = [
     [1, 0, 0, 0, 0, 0, 0, 0, 0, 0, 0], // 0 NOP
     [1, 1, 1, 1, 0, 0, 0, 0, 0, 0, 0], // 1 LD
@@ -71,6 +72,21 @@ const TABLE: [[u8; 11]; 56] = [
     [1, 14, 5, 32, 2, 0, 0, 0, 0, 0, 0], // 55 DDEC
 ];
 
+const UNUSED: Place = Place {
+    role: 0,
+    width: 0,
+    extent: 0,
+};
+
+// What a number past the table is.
+const UNKNOWN: Row = Row {
+    known: false,
+    form: 0,
+    first: UNUSED,
+    second: UNUSED,
+    third: UNUSED,
+};
+
 // The table, made once by whoever looks rows up and then lent: the compiler would else make it anew at each look-up.
 pub fn table() -> [[u8; 11]; 56]
     ensures { result ≡ cells }
@@ -83,42 +99,40 @@ pub fn row_in(rows: &[[u8; 11]; 56], n: usize) -> Row
     requires { rows.now ≡ cells }
     ensures { result ≡ row_of n }
 {
-    if n < 56 {
-        let t = rows[n];
-        let first = Place {
-            role: t[2],
-            width: t[3],
-            extent: t[4],
-        };
-        let second = Place {
-            role: t[5],
-            width: t[6],
-            extent: t[7],
-        };
-        let third = Place {
-            role: t[8],
-            width: t[9],
-            extent: t[10],
-        };
-        return Row {
-            known: t[0] == 1,
-            form: t[1],
-            first,
-            second,
-            third,
-        };
+    if n >= 56 {
+        return UNKNOWN;
     }
-    let no = Place {
-        role: 0,
-        width: 0,
-        extent: 0,
-    };
+    let [
+        known,
+        form,
+        role,
+        width,
+        extent,
+        role_2,
+        width_2,
+        extent_2,
+        role_3,
+        width_3,
+        extent_3,
+    ] = rows[n];
     Row {
-        known: false,
-        form: 0,
-        first: no,
-        second: no,
-        third: no,
+        known: known == 1,
+        form,
+        first: Place {
+            role,
+            width,
+            extent,
+        },
+        second: Place {
+            role: role_2,
+            width: width_2,
+            extent: extent_2,
+        },
+        third: Place {
+            role: role_3,
+            width: width_3,
+            extent: extent_3,
+        },
     }
 }
 
@@ -127,10 +141,7 @@ pub fn form_in(rows: &[[u8; 11]; 56], n: usize) -> u8
     requires { rows.now ≡ cells }
     ensures { result ≡ (row_of n).form }
 {
-    if n < 56 {
-        return rows[n][1];
-    }
-    0
+    if n < 56 { rows[n][1] } else { 0 }
 }
 
 // What a step of a scan asks of a row. The numbers of an accepted program are all in the table, so that no test stands here.

@@ -1,10 +1,10 @@
 -- A table of leftovers, by its two bytes. Assumes nothing.
-use Prim.Native.Nat.{ℕ, ◌+◌, ◌/◌, ◌≤◌}
+use Prim.Native.Nat.{ℕ, ◌+◌, ◌/◌, ◌<◌, ◌≤◌}
 use mathlib.Core.Bool.{true, false, ◌&&◌}
 use mathlib.Core.List.{List, [], ◌∷◌}
 use mathlib.Core.Path.{◌≡◌, refl, ap}
 use native.Mathlib.Omega.{arith}
-use borrow.Author.Tests.{eq-eqb, ne_eqb, eqb-true, leb-true}
+use borrow.Author.Tests.{eq-eqb, ne_eqb, eqb-true, leb-true, le-leb, lt-leb}
 use lib.Dec.{leb, eqb}
 use lib.ListN.{length, get_or, set}
 use Rattle.ec20.proofs.Tests.{both, picked}
@@ -17,9 +17,17 @@ unfolding leftovers_fit
 misfit r h = rw (ne_eqb (length r) 2 h) refl
 
 -- of two bytes, each in its range
-pub fit-two : (r : List ℕ) → length r ≡ 2 → (leb (get_or r 0 0) 9 && leb (get_or r 1 0) 99) ≡ leftovers_fit r
+fit-two : (r : List ℕ) → length r ≡ 2 → (leb (get_or r 0 0) 9 && leb (get_or r 1 0) 99) ≡ leftovers_fit r
 unfolding leftovers_fit leftover_of
 fit-two r h = rw (eq-eqb (length r) 2 h) refl
+
+-- by the second byte, where the first is in its range
+pub fit-second : (r : List ℕ) → length r ≡ 2 → get_or r 0 0 ≤ 9 → leb (get_or r 1 0) 99 ≡ leftovers_fit r
+fit-second r h l = rw (le-leb _ _ l) at (fit-two r h)
+
+-- and not at all, where it is not
+pub fit-first : (r : List ℕ) → length r ≡ 2 → 9 < get_or r 0 0 → leb (get_or r 0 0) 9 ≡ leftovers_fit r
+fit-first r h l = let e = lt-leb _ _ l in rw e (rw e at (fit-two r h))
 
 -- a table that fits has two entries, in their ranges
 module _ (r : List ℕ) (h : leftovers_fit r ≡ true) where

@@ -12,10 +12,10 @@ use ec20::Units;
 pub fn fit(rest: &[u8]) -> bool
     ensures { result ≡ leftovers_fit rest.now }
 {
-    if rest.len() == 2 {
-        return (rest[0] <= 9) & (rest[1] <= 99);
-    }
-    false
+    let [tens, hundreds] = rest else {
+        return false;
+    };
+    *tens <= 9 && *hundreds <= 99
 }
 
 // "Whole units from leftover plus elapsed go to every timer of that base in that scan": those units, and in the table what is left over of each.

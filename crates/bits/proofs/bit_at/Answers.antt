@@ -7,9 +7,6 @@ use lib.Bits.{and_mask, mask_lt}
 use Rattle.ec20.specs.Bits.{bit_at}
 use Rattle.bits.proofs.bit_at.Goals as goal
 
-pub overflow_cast-result : goal.overflow_cast-result
-overflow_cast-result c = omega (arith, c.type_inv.bits (c.args.k / 8))
-
 pub returns-then-at-bits : goal.returns-then-at-bits
 unfolding bit_at
 returns-then-at-bits c =

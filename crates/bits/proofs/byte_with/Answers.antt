@@ -1,15 +1,6 @@
 -- The byte without its bit j, and with b there. Assumes nothing.
-use native.Mathlib.Omega.{arith}
-use Rattle.bits.proofs.Steps.{byte-lt, byte-code, bit-taken}
+use Rattle.bits.proofs.Steps.{byte-lt, byte-code}
 use Rattle.bits.proofs.byte_with.Goals as goal
-
-pub overflow_sub-result : goal.overflow_sub-result
-overflow_sub-result c = bit-taken c.args.x c.args.j c.args.b c.ranges.x.fits c.requires.0 c.requires.1
-
-pub overflow_add-result : goal.overflow_add-result
-overflow_add-result c =
-    let l = byte-lt c.args.x c.args.j c.args.b c.ranges.x.fits c.requires.0 c.requires.1 in
-    rw (byte-code c.args.x c.args.j c.args.b c.ranges.x.fits c.requires.0 c.requires.1) (record { fits = omega (arith, l) })
 
 pub overflow_cast-result : goal.overflow_cast-result
 overflow_cast-result c =

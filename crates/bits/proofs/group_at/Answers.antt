@@ -1,34 +1,21 @@
 -- The bits that are gathered, as a number of the width. Assumes nothing.
 use mathlib.Core.Path.{◌≡◌, ap, ap₂, ◌∙◌}
-use native.Mathlib.Omega.{arith}
 use mir.Syntax.{w64}
 use Rattle.ec20.specs.Numbers.{signed}
 use Rattle.ec20.specs.Bits.{packed, group_size, group_at}
 use Rattle.ints.proofs.Parts.{said}
-use Rattle.bits.proofs.Laws.{width-bounds, group-bits, group-range}
+use Rattle.bits.proofs.Laws.{group-range}
 use Rattle.bits.proofs.group_at.Goals as goal
 
 -- what is gathered
-bits-2 : (c : goal.After-of_bits) → c.gather.result ≡ packed c.args.bits.now c.args.first (group_size c.args.w c.args.n)
-bits-2 c =
-    let a = c.args in
-    c.gather.ensures.0 ∙ ap (packed a.bits.now a.first) c.group_size-size.ensures.0
-
--- what is gathered
-bits : (c : goal.After-half_of) → c.gather.result ≡ packed c.args.bits.now c.args.first (group_size c.args.w c.args.n)
+bits : (c : goal.After-of_bits) → c.gather.result ≡ packed c.args.bits.now c.args.first (group_size c.args.w c.args.n)
 bits c =
     let a = c.args in
     c.gather.ensures.0 ∙ ap (packed a.bits.now a.first) c.group_size-size.ensures.0
-
-pub of_bits-requires : goal.of_bits-requires
-of_bits-requires c =
-    let a = c.args in
-    let g = group-bits a.w a.bits.now a.first a.n in
-    (omega (arith, bits c, g, c.half_of.ensures), omega (arith, c.half_of.ensures, (width-bounds a.w).2))
 
 pub returns : goal.returns
 unfolding group_at
 returns c =
     let a = c.args in
-    let s = said w64 c.of_bits.type_inv (c.of_bits.ensures ∙ ap₂ signed c.half_of.ensures (bits-2 c)) in
+    let s = said w64 c.of_bits.type_inv (c.of_bits.ensures ∙ ap₂ signed c.half_of.ensures (bits c)) in
     (s, rw s (group-range a.w a.bits.now a.first a.n))

@@ -7,5 +7,5 @@ use Rattle.instructions.proofs.form_in.Goals as goal
 pub returns-then-n-lt56 : goal.returns-then-n-lt56
 returns-then-n-lt56 c = cell _ _ 1 (λ (r : Row). r.form) (λ t. refl) c.requires
 
-pub returns : goal.returns
-returns c = ap (λ (r : Row). r.form) (row-past _ (omega arith))
+pub returns-else-n-lt56 : goal.returns-else-n-lt56
+returns-else-n-lt56 c = ap (λ (r : Row). r.form) (row-past _ (omega arith))

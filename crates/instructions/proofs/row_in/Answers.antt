@@ -7,8 +7,8 @@ use lib.ListN.{get_or}
 use Rattle.instructions.proofs.Rows.{made, row-by-cells, row-past}
 use Rattle.instructions.proofs.row_in.Goals as goal
 
-pub returns-then-n-lt56 : goal.returns-then-n-lt56
-returns-then-n-lt56 c = ap (λ (t : List (List ℕ)). made (get_or t c.args.n [])) c.requires ∙ row-by-cells _
+pub returns-then-n-ge56 : goal.returns-then-n-ge56
+returns-then-n-ge56 c = row-past _ (omega arith)
 
 pub returns : goal.returns
-returns c = row-past _ (omega arith)
+returns c = ap (λ (t : List (List ℕ)). made (get_or t c.args.n [])) c.requires ∙ row-by-cells _

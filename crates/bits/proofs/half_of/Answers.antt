@@ -1,9 +1,0 @@
--- By the width. Assumes nothing.
-use borrow.Author.Tests.{eq-eqb, ne_eqb}
-use Rattle.bits.proofs.half_of.Goals as goal
-
-pub returns-then-w-eq16 : goal.returns-then-w-eq16
-returns-then-w-eq16 c = rw (eq-eqb _ _ c.if-w-eq16.true)
-
-pub returns-else-w-eq16 : goal.returns-else-w-eq16
-returns-else-w-eq16 c = rw (ne_eqb _ _ c.if-w-eq16.false)
