@@ -3,7 +3,7 @@
 #![tactic(auto)]
 
 ghost use Rattle.std.specs.Prelude.{◌+◌, ◌<◌, ◌^◌, eqb, not, ◌||◌, ◌≡◌};
-ghost use Rattle.ec20.specs.Basics.{pick, one_if};
+ghost use Rattle.ec20.specs.Basics.{pick};
 ghost use Rattle.ec20.specs.Flow.{is_on, flow_of, push, top, onward, flowed, acted, failed, gone, stopped, starts_now, loaded, contact_of, compare_of, join_of, branch_of};
 
 use ec20::Machine;
@@ -22,17 +22,11 @@ fn flow_of(b: bool) -> usize
     if b { 2 } else { 1 }
 }
 
-fn one_if(b: bool) -> usize
-    ensures { (result ≡ one_if b) × (result < 2) }
-{
-    if b { 1 } else { 0 }
-}
-
 // A stack with one more entry, and its top.
 fn pushed(n: usize, b: bool) -> usize
     ensures { result ≡ push n b }
 {
-    n % 128 * 2 + one_if(b)
+    n % 128 * 2 + usize::from(b)
 }
 
 fn top_of(n: usize) -> bool
@@ -46,9 +40,7 @@ pub fn go_on(s: Machine) -> Machine
     requires { s.pc < 2 ^ 63 }
     ensures { result ≡ onward s }
 {
-    let mut r = s;
-    r.pc = s.pc + 1;
-    r
+    Machine { pc: s.pc + 1, ..s }
 }
 
 // After an instruction that makes flow: the flow, the block stack, the branch stack.
@@ -56,30 +48,25 @@ fn make_flow(s: Machine, f: usize, n: usize, m: usize) -> Machine
     requires { s.pc < 2 ^ 63 }
     ensures { result ≡ flowed s f n m }
 {
-    let mut r = s;
-    r.pc = s.pc + 1;
-    r.flow = f;
-    r.action = 0;
-    r.blocks = n;
-    r.branches = m;
-    r
+    Machine {
+        pc: s.pc + 1,
+        flow: f,
+        action: 0,
+        blocks: n,
+        branches: m,
+        ..s
+    }
 }
 
-// After an action. Its fields are written out: a copy with two of them changed stands in memory at each word instruction (docs/BENCHMARKS.md).
+// After an action.
 pub fn act(s: Machine) -> Machine
     requires { s.pc < 2 ^ 63 }
     ensures { result ≡ acted s }
 {
     Machine {
         pc: s.pc + 1,
-        flow: s.flow,
         action: 1,
-        blocks: s.blocks,
-        branches: s.branches,
-        depth: s.depth,
-        ended: s.ended,
-        error: s.error,
-        at: s.at,
+        ..s
     }
 }
 
@@ -88,38 +75,41 @@ pub fn fail(s: Machine, e: usize) -> Machine
     requires { s.pc < 2 ^ 63 }
     ensures { result ≡ failed s e }
 {
-    if s.error == 0 {
-        let mut r = s;
-        r.pc = s.pc + 1;
-        r.action = 1;
-        r.error = e;
-        r.at = s.pc;
-        return r;
+    if s.error != 0 {
+        return act(s);
     }
-    act(s)
+    Machine {
+        pc: s.pc + 1,
+        action: 1,
+        error: e,
+        at: s.pc,
+        ..s
+    }
 }
 
 // After FOR, NEXT, CJ and LBL flow is absent: the record due, the loops open.
 pub fn go_to(s: Machine, k: usize, d: usize) -> Machine
     ensures { result ≡ gone s k d }
 {
-    let mut r = s;
-    r.pc = k;
-    r.flow = 0;
-    r.action = 0;
-    r.depth = d;
-    r
+    Machine {
+        pc: k,
+        flow: 0,
+        action: 0,
+        depth: d,
+        ..s
+    }
 }
 
 // END: it stays the record stopped at.
 pub fn stop(s: Machine) -> Machine
     ensures { result ≡ stopped s }
 {
-    let mut r = s;
-    r.flow = 0;
-    r.action = 0;
-    r.ended = 1;
-    r
+    Machine {
+        flow: 0,
+        action: 0,
+        ended: 1,
+        ..s
+    }
 }
 
 // A load starts a rung, or pushes the flow on the block stack. What would be pushed is made ahead, so that the compiler chooses and does not jump.
@@ -140,7 +130,7 @@ fn load(s: Machine, b: bool) -> Machine
 fn turned(n: usize, bit: bool) -> bool
     ensures { result ≡ pick (eqb n 2 || eqb n 4 || eqb n 6) (not bit) bit }
 {
-    bit != ((n == 2) | (n == 4) | (n == 6))
+    bit != matches!(n, 2 | 4 | 6)
 }
 
 // LD, LDI, AND, ANI, OR, ORI of a bit.

@@ -3,10 +3,10 @@ use mathlib.Core.Path.{refl}
 use Rattle.ec20.specs.Flow.{failed}
 use Rattle.flow.proofs.fail.Goals as goal
 
-pub returns-then-s-eq0 : goal.returns-then-s-eq0
+pub returns-then-s-ne0 : goal.returns-then-s-ne0
 unfolding failed
-returns-then-s-eq0 c = rw (eq-eqb _ _ c.if-s-eq0.true) refl
+returns-then-s-ne0 c = rw (ne_eqb _ _ c.if-s-ne0.true) c.act.ensures
 
 pub returns : goal.returns
 unfolding failed
-returns c = rw (ne_eqb _ _ c.if-s-eq0.false) c.act.ensures
+returns c = rw (eq-eqb _ _ c.if-s-ne0.false) refl
