@@ -14,7 +14,7 @@ ghost use Rattle.ec20.specs.Registers.{word_at};
 fn byte_at(b: &[u8], i: usize) -> u8
     ensures { result ≡ byte_at b.now i }
 {
-    if i < b.len() { b[i] } else { 0 }
+    b.get(i).copied().unwrap_or(0)
 }
 
 // Word i of the bytes, 0 where they are not there.
@@ -22,9 +22,10 @@ fn word_in(b: &[u8], i: usize) -> i16
     ensures { result ≡ word_in b.now i }
 {
     if i < b.len() / 2 {
-        return ints::of_bits16(records::u16_at(b, 2 * i) as u64);
+        ints::of_bits16(records::u16_at(b, 2 * i) as u64)
+    } else {
+        0
     }
-    0
 }
 
 // Byte i of the words, 0 where they are not there. The word has 16 bits.
@@ -44,10 +45,8 @@ pub fn byte_of(d: &[i16], i: usize) -> u8
 pub fn fill_bytes(b: &[u8], to: &mut [u8])
     ensures { Filled 0 (length to.old) (λ i. byte_at b.now i) to.new }
 {
-    let mut i = 0;
-    while i < to.len() {
+    for i in 0..to.len() {
         to[i] = byte_at(b, i);
-        i += 1;
     }
 }
 
@@ -55,10 +54,8 @@ pub fn fill_bytes(b: &[u8], to: &mut [u8])
 pub fn fill_words(b: &[u8], to: &mut [i16])
     ensures { Filled (pos 0) (length to.old) (λ i. word_in b.now i) to.new }
 {
-    let mut i = 0;
-    while i < to.len() {
+    for i in 0..to.len() {
         to[i] = word_in(b, i);
-        i += 1;
     }
 }
 
@@ -101,19 +98,13 @@ pub fn split(
 fn bit_byte(x: &[u8], y: &[u8], m: &[u8], sm: &[u8], t: &[u8], i: usize) -> u8
     ensures { result ≡ bit_byte x.now y.now m.now sm.now t.now i }
 {
-    if i < 32 {
-        return byte_at(x, i);
+    match i {
+        0..=31 => byte_at(x, i),
+        32..=63 => byte_at(y, i - 32),
+        64..=313 => byte_at(m, i - 64),
+        314..=345 => byte_at(sm, i - 314),
+        _ => byte_at(t, i - 346),
     }
-    if i < 64 {
-        return byte_at(y, i - 32);
-    }
-    if i < 314 {
-        return byte_at(m, i - 64);
-    }
-    if i < 346 {
-        return byte_at(sm, i - 314);
-    }
-    byte_at(t, i - 346)
 }
 
 // The same of all tables and the leftovers.
@@ -131,16 +122,12 @@ fn image_byte(
     ensures value { result ≡ image_byte (plant (memory x.now y.now m.now sm.now t.now d.now tv.now) rest.now) i }
     ensures word16 { Word16 d.now tv.now i }
 {
-    if i < 378 {
-        return bit_byte(x, y, m, sm, t, i);
+    match i {
+        0..=377 => bit_byte(x, y, m, sm, t, i),
+        378..=16377 => byte_of(d, i - 378),
+        16378..=16889 => byte_of(tv, i - 16378),
+        _ => byte_at(rest, i - 16890),
     }
-    if i < 16378 {
-        return byte_of(d, i - 378);
-    }
-    if i < 16890 {
-        return byte_of(tv, i - 16378);
-    }
-    byte_at(rest, i - 16890)
 }
 
 // The bytes of a memory file from the tables and the leftovers. What a table lacks is 0. Nothing of tables of a memory file's sizes is lost in them.
@@ -159,9 +146,7 @@ pub fn join(
     ensures b_after { length b.old ≡ 16892 → b.new ≡ image_of (plant (memory x.now y.now m.now sm.now t.now d.now tv.now) rest.now) }
     ensures b_after_2 { length b.old ≡ 16892 → Sizes (plant (memory x.now y.now m.now sm.now t.now d.now tv.now) rest.now) → plant_of b.new ≡ plant (memory x.now y.now m.now sm.now t.now d.now tv.now) rest.now }
 {
-    let mut i = 0;
-    while i < b.len() {
+    for i in 0..b.len() {
         b[i] = image_byte(x, y, m, sm, t, d, tv, rest, i);
-        i += 1;
     }
 }

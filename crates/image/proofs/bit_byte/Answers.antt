@@ -4,22 +4,22 @@ use borrow.Author.Tests.{lt-ltb, le-ltb}
 use Rattle.image.specs.Image.{bit_byte}
 use Rattle.image.proofs.bit_byte.Goals as goal
 
-pub returns-then-i-lt32 : goal.returns-then-i-lt32
+pub returns-in-0-to-31 : goal.returns-in-0-to-31
 unfolding bit_byte
-returns-then-i-lt32 c = let a = c.args in rw (lt-ltb a.i 32 (omega arith)) c.byte_at.ensures
+returns-in-0-to-31 c = let a = c.args in rw (lt-ltb a.i 32 (omega arith)) c.byte_at.ensures
 
-pub returns-then-i-lt64 : goal.returns-then-i-lt64
+pub returns-in-32-to-63 : goal.returns-in-32-to-63
 unfolding bit_byte
-returns-then-i-lt64 c = let a = c.args in rw (le-ltb a.i 32 (omega arith), lt-ltb a.i 64 (omega arith)) c.byte_at-then-i-lt64.ensures
+returns-in-32-to-63 c = let a = c.args in rw (le-ltb a.i 32 (omega arith), lt-ltb a.i 64 (omega arith)) c.byte_at-in-32-to-63.ensures
 
-pub returns-then-i-lt314 : goal.returns-then-i-lt314
+pub returns-in-64-to-313 : goal.returns-in-64-to-313
 unfolding bit_byte
-returns-then-i-lt314 c = let a = c.args in rw (le-ltb a.i 32 (omega arith), le-ltb a.i 64 (omega arith), lt-ltb a.i 314 (omega arith)) c.byte_at-then-i-lt314.ensures
+returns-in-64-to-313 c = let a = c.args in rw (le-ltb a.i 32 (omega arith), le-ltb a.i 64 (omega arith), lt-ltb a.i 314 (omega arith)) c.byte_at-in-64-to-313.ensures
 
-pub returns-then-i-lt346 : goal.returns-then-i-lt346
+pub returns-in-314-to-345 : goal.returns-in-314-to-345
 unfolding bit_byte
-returns-then-i-lt346 c = let a = c.args in rw (le-ltb a.i 32 (omega arith), le-ltb a.i 64 (omega arith), le-ltb a.i 314 (omega arith), lt-ltb a.i 346 (omega arith)) c.byte_at-then-i-lt346.ensures
+returns-in-314-to-345 c = let a = c.args in rw (le-ltb a.i 32 (omega arith), le-ltb a.i 64 (omega arith), le-ltb a.i 314 (omega arith), lt-ltb a.i 346 (omega arith)) c.byte_at-in-314-to-345.ensures
 
-pub returns : goal.returns
+pub returns-in_default : goal.returns-in_default
 unfolding bit_byte
-returns c = let a = c.args in rw (le-ltb a.i 32 (omega arith), le-ltb a.i 64 (omega arith), le-ltb a.i 314 (omega arith), le-ltb a.i 346 (omega arith)) c.byte_at-2.ensures
+returns-in_default c = let a = c.args in rw (le-ltb a.i 32 (omega arith), le-ltb a.i 64 (omega arith), le-ltb a.i 314 (omega arith), le-ltb a.i 346 (omega arith)) c.byte_at-in_default.ensures

@@ -4,23 +4,12 @@ use native.Mathlib.Omega.{arith}
 use Prim.Native.Nat.{◌/◌, ◌%◌, ◌<◌, ℕ}
 use lib.IntN.{ℤ}
 use lib.Signed.{mag}
-use lib.Dec.{lit<}
 use borrow.Author.Tests.{eq-eqb, ne_eqb}
 use Rattle.ec20.specs.Numbers.{low}
-use Rattle.ec20.specs.Registers.{word_at}
 use mir.Syntax.{w64}
 use Rattle.ints.proofs.Parts.{said}
-use Rattle.ints.proofs.TwosLaws.{low-lt}
 use Rattle.image.specs.Image.{byte_of}
 use Rattle.image.proofs.byte_of.Goals as goal
-
-pub overflow_cast-result-else-i-eq0 : goal.overflow_cast-result-else-i-eq0
-overflow_cast-result-else-i-eq0 c =
-    let z = c.word_at in
-    let e = c.bits-u.ensures ∙ ap (low 65536) (said w64 z.type_inv z.ensures.0) in
-    let a = c.args in
-    let h : low 65536 (word_at a.d.now (a.i / 2)) < 65536 = low-lt 65536 (word_at a.d.now (a.i / 2)) (lit< tt) in
-    omega (arith, e)
 
 pub returns-then-i-eq0 : goal.returns-then-i-eq0
 unfolding byte_of

@@ -1,5 +1,4 @@
 -- The loop's invariant: the first i entries are filled. Assumes nothing.
-use Prim.Native.Nat.{◌-◌}
 use lib.ListN.{length}
 use Rattle.ec20.specs.File.{byte_at}
 use Rattle.image.proofs.Filling.{Filling}
@@ -7,6 +6,3 @@ use Rattle.image.proofs.fill_bytes.Given as goal
 
 abbrev pub invariant-loop-i : goal.invariant-loop-i
 invariant-loop-i l = Filling 0 (length l.initial.to) l.i (λ j. byte_at l.b j) l.to
-
-abbrev pub decreases-loop-i : goal.decreases-loop-i
-decreases-loop-i l = length l.initial.to - l.i

@@ -1,5 +1,4 @@
 -- The loop's invariant: the first i entries are filled. Assumes nothing.
-use Prim.Native.Nat.{◌-◌}
 use lib.ListN.{length}
 use lib.IntN.{pos}
 use Rattle.image.specs.Image.{word_in}
@@ -8,6 +7,3 @@ use Rattle.image.proofs.fill_words.Given as goal
 
 abbrev pub invariant-loop-i : goal.invariant-loop-i
 invariant-loop-i l = Filling (pos 0) (length l.initial.to) l.i (λ j. word_in l.b j) l.to
-
-abbrev pub decreases-loop-i : goal.decreases-loop-i
-decreases-loop-i l = length l.initial.to - l.i

@@ -3,33 +3,6 @@ use native.Mathlib.Omega.{arith}
 use Rattle.image.proofs.Inverse.{join-split, split-tables}
 use Rattle.image.proofs.split.Goals as goal
 
-pub slice_bounds-fill_bytes-end-6 : goal.slice_bounds-fill_bytes-end-6
-slice_bounds-fill_bytes-end-6 c = omega (arith, c.requires)
-
-pub shape_of-x : goal.shape_of-x
-shape_of-x c = c.x-1.given
-
-pub shape_of-y : goal.shape_of-y
-shape_of-y c = c.y-1.given
-
-pub shape_of-m : goal.shape_of-m
-shape_of-m c = c.m-1.given
-
-pub shape_of-sm : goal.shape_of-sm
-shape_of-sm c = c.sm-1.given
-
-pub shape_of-t : goal.shape_of-t
-shape_of-t c = c.t-1.given
-
-pub shape_of-d : goal.shape_of-d
-shape_of-d c = c.d-1.given
-
-pub shape_of-tv : goal.shape_of-tv
-shape_of-tv c = c.tv-1.given
-
-pub shape_of-rest : goal.shape_of-rest
-shape_of-rest c = c.rest-1.given
-
 pub returns : goal.returns
 returns c =
     let long = c.requires in

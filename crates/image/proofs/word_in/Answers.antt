@@ -17,6 +17,6 @@ returns-then-i-b c =
     rw (lt-ltb a.i (length a.b.now / 2) (omega arith))
     (said w16 c.of_bits16.type_inv (c.of_bits16.ensures ∙ ap (signed 32768) c.u16_at.ensures.0))
 
-pub returns : goal.returns
+pub returns-else-i-b : goal.returns-else-i-b
 unfolding word_in
-returns c = let a = c.args in rw (le-ltb a.i (length a.b.now / 2) (omega arith)) refl
+returns-else-i-b c = let a = c.args in rw (le-ltb a.i (length a.b.now / 2) (omega arith)) refl

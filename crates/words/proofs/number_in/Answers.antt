@@ -17,12 +17,6 @@ low c =
     let a = c.args in
     word_read a.d.now (a.i + 1) c.wide16-in_default-2.type_inv c.wide16-arg-in_default-2-1.given c.wide16-in_default-2.ensures
 
-pub raised-high-requires : goal.raised-high-requires
-raised-high-requires c = omega (arith, (high c).1)
-
-pub raised-low-requires : goal.raised-low-requires
-raised-low-requires c = omega (arith, (low c).1)
-
 pub returns-in-16 : goal.returns-in-16
 unfolding number_at
 returns-in-16 c =

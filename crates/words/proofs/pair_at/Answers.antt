@@ -6,12 +6,6 @@ use Rattle.ints.proofs.Parts.{said}
 use Rattle.words.proofs.Steps.{told, pair_read}
 use Rattle.words.proofs.pair_at.Goals as goal
 
-pub raised-high-requires : goal.raised-high-requires
-raised-high-requires c = (told 2147483648 {z = c.word_at.result} c.word_at.type_inv refl (omega (arith, c.word_at.ensures.1))).1
-
-pub raised-low-requires : goal.raised-low-requires
-raised-low-requires c = (told 2147483648 {z = c.word_at-2.result} c.word_at-2.type_inv refl (omega (arith, c.word_at-2.ensures.1))).1
-
 pub returns : goal.returns
 returns c =
     let a = c.args in

@@ -20,13 +20,6 @@ second : (c : goal.After-of_bits-in_default) → Told (2 ^ 15) c.of_bits-in_defa
 second c =
     low_of _ c.raised-u.ensures (to_z-of_z c.ranges.v) c.of_bits-in_default.type_inv c.of_bits-in_default.ensures
 
-pub narrow16-requires : goal.narrow16-requires
-narrow16-requires c =
-    record { sfits = rw (to_z-of_z c.ranges.v) (rw c.in-16.is at c.requires.1) }
-
-pub raised-u-requires : goal.raised-u-requires
-raised-u-requires c = rw (to_z-of_z c.ranges.v) (rw (ne_eqb _ _ c.in_default.in_default-own.rest.1) at c.requires.1)
-
 pub narrow16-requires-in_default : goal.narrow16-requires-in_default
 narrow16-requires-in_default c = record { sfits = (first c).1 }
 

@@ -7,14 +7,6 @@ use borrow.Author.Tests.{ne_eqb}
 use Rattle.ec20.specs.Registers.{with_pair, with_number}
 use Rattle.words.proofs.put_number.Goals as goal
 
-pub put_word-requires : goal.put_word-requires
-put_word-requires c =
-    rw (to_z-of_z c.ranges.v) (rw c.in-16.is at c.requires.1)
-
-pub put_pair-requires : goal.put_pair-requires
-put_pair-requires c =
-    (c.requires.0, rw (to_z-of_z c.ranges.v) (rw (ne_eqb _ _ c.in_default.in_default-own.rest.1) at c.requires.1))
-
 pub returns-in-16 : goal.returns-in-16
 unfolding with_number
 returns-in-16 c =
