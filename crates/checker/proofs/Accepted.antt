@@ -2,10 +2,10 @@
 use Prim.Native.Nat.{ℕ}
 use mathlib.Core.Bool.{Bool, true, false}
 use mathlib.Core.List.{List}
-use mathlib.Core.Path.{◌≡◌, refl, sym, ap₂, ◌∙◌}
+use mathlib.Core.Path.{◌≡◌, refl, sym, ap, ap₂, ◌∙◌}
 use native.Mathlib.Omega.{arith}
 use Rattle.std.specs.Prelude.{Result, Ok, Err}
-use Rattle.checker.specs.Accepted.{accepted_of}
+use Rattle.checker.specs.Accepted.{accepted_of, framed_by}
 use Rattle.ec20.specs.declared.Frame.{Frame as WholeFrame}
 use Rattle.ec20.specs.declared.Refusal.{Refusal}
 use Rattle.ec20.proofs.Parts.{whole-parts}
@@ -71,3 +71,47 @@ module _ (f : List ℕ) where
   pub accepted-not : {d : Refusal} → ◌≡◌ {A = Verdict} (Err d) (check_of f) → ◌≡◌ {A = Result WholeFrame Refusal} (Err d) (accepted_of f)
   unfolding accepted_of
   accepted-not e = rw (sym e) refl
+
+-- what `accepted_of` tells of a file, where it tells a frame
+pub record Taken (f : List ℕ) (w : WholeFrame) : Type 0 where
+  pub records : ℕ
+  pub steps : ℕ
+  pub verdict : check_of f ≡ Accepted records steps
+  pub first : w.first ≡ first_of f
+  pub count : w.count ≡ count_of f
+  pub fine : first_bad ec20 (records_of f) ≡ Fine
+
+frame_in : WholeFrame → Result WholeFrame Refusal → WholeFrame
+frame_in w (Ok a) = a
+frame_in w (Err r) = w
+
+refusal_in : Refusal → Result WholeFrame Refusal → Refusal
+refusal_in d (Ok a) = d
+refusal_in d (Err r) = r
+
+module _ (f : List ℕ) where
+  pub taken : {w : WholeFrame} → ◌≡◌ {A = Result WholeFrame Refusal} (Ok w) (accepted_of f) → Taken f w
+  unfolding accepted_of frame_in
+  taken {w} e = go (check_of f) refl
+    where
+      go : (v : Verdict) → check_of f ≡ v → Taken f w
+      go (Err r) q = let z : ◌≡◌ {A = Result WholeFrame Refusal} (Ok w) (Err r) = rw q at e in let y : ◌≡◌ {A = ℕ} 0 1 = cc in absurd (omega arith)
+      go (Ok a) q =
+          let z : w ≡ record { first = first_of f; count = count_of f } = ap (frame_in w) (rw q at e) in
+          record {
+            records = a.records;
+            steps = a.steps;
+            verdict = q;
+            first = ap (λ (x : WholeFrame). x.first) z;
+            count = ap (λ (x : WholeFrame). x.count) z;
+            fine = accepted-fine f (sym q) refl;
+          }
+
+  -- and where it tells a refusal
+  pub not_taken : {d : Refusal} → ◌≡◌ {A = Result WholeFrame Refusal} (Err d) (accepted_of f) → ◌≡◌ {A = Verdict} (Err d) (check_of f)
+  unfolding accepted_of refusal_in
+  not_taken {d} e = go (check_of f) refl
+    where
+      go : (v : Verdict) → check_of f ≡ v → ◌≡◌ {A = Verdict} (Err d) (check_of f)
+      go (Ok a) q = let z : ◌≡◌ {A = Result WholeFrame Refusal} (Err d) (framed_by (Ok a) f) = rw q at e in let y : ◌≡◌ {A = ℕ} 0 1 = cc in absurd (omega arith)
+      go (Err r) q = ap (λ (x : Refusal). let v : Verdict = Err x in v) (ap (refusal_in d) (rw q at e)) ∙ sym q

@@ -1,7 +1,7 @@
 // The check: every file gets an answer. 1 first; then the first record that breaks 2, 3 or 4; then 5, 6, 7 and 8, each over the whole program.
 #![tactic(auto)]
 
-ghost use Rattle.std.specs.Prelude.{◌≤◌, length, ◌≡◌};
+ghost use Rattle.std.specs.Prelude.{IfOk, length, ◌≡◌};
 ghost use Rattle.checker.specs.Accepted.{accepted_of};
 ghost use Rattle.checker.specs.Stages.{from_records};
 ghost use Rattle.ec20.specs.Check.{check_of};
@@ -50,7 +50,8 @@ pub fn check(f: &[u8]) -> Result<Accepted, Refusal>
 
 // Of a file that the check accepts where its records begin, and how many there are; of any other why it is refused.
 pub fn accept(f: &[u8]) -> Result<Frame, Refusal>
-    ensures { result ≡ accepted_of f.now }
+    ensures value { result ≡ accepted_of f.now }
+    ensures held { IfOk result (λ w. Held (length f.now) w.first w.count) }
 {
     check(f)?;
     Ok(records::frame(f).unwrap())
