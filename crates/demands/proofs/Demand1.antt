@@ -9,6 +9,7 @@ use Rattle.ec20.specs.Moved.{To, Refused as NotMoved}
 use Rattle.ec20.specs.Scanned.{Refused as NotScanned}
 use Rattle.ec20.specs.Verdict.{Verdict}
 use Rattle.ec20.specs.Verdict.{Accepted}
+use Rattle.ec20.specs.Answers.{told_by_map}
 use Rattle.ec20.specs.Check.{check_for}
 use Rattle.ec20.specs.Devices.{Device, ec20}
 use Rattle.ec20.specs.Exchange.{exchange_for}
@@ -57,9 +58,9 @@ check-same {f = f} n (accepted {w = w} a b c d e h s) = (n.accepted (count_of f)
 map_numbers : (v : Device) (f : List ℕ) → MapNumbers v f
 unfolding map_for
 map_numbers v f = record {
-  refused = λ m k h. ap (λ (x : Verdict). map_if v x (records_of f)) h;
+  refused = λ m k h. ap (λ (x : Verdict). told_by_map v (map_if v x (records_of f))) h;
   accepted = λ ok.
-      (ap (λ (x : Verdict). (map_if v x (records_of f)).number) ok.2, ap (λ (x : Verdict). (map_if v x (records_of f)).at) ok.2);
+      (ap (λ (x : Verdict). (told_by_map v (map_if v x (records_of f))).number) ok.2, ap (λ (x : Verdict). (told_by_map v (map_if v x (records_of f))).at) ok.2);
 }
 
 pub demand-1 : Demand1

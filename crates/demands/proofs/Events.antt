@@ -2,7 +2,6 @@
 use Prim.Native.Nat.{ℕ}
 use mathlib.Core.List.{List, [], ◌∷◌}
 use mathlib.Core.Path.{◌≡◌, refl, ◌∙◌}
-use native.Mathlib.Omega.{arith}
 use Rattle.ec20.specs.Verdict.{Accepted}
 use Rattle.ec20.specs.Check.{check_for}
 use Rattle.ec20.specs.Devices.{ec20}

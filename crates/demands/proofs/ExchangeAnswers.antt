@@ -9,7 +9,7 @@ use Rattle.std.specs.Prelude.{Err}
 use Rattle.ec20.specs.Exchanged.{Exchanged}
 use Rattle.ec20.specs.Exchanged.{Done, Refused}
 use Rattle.ec20.specs.Judged.{Judged}
-use Rattle.ec20.specs.Judged.{Fine, Fault}
+use Rattle.ec20.specs.Judged.{Fine}
 use Rattle.ec20.specs.Basics.{then}
 use Rattle.ec20.specs.Devices.{Device}
 use Rattle.ec20.specs.Exchange.{Exchange, exchanged, size_fault, place_fault, judge_exchange, exchange_if, exchange_for}

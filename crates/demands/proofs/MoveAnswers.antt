@@ -8,11 +8,11 @@ use Rattle.std.specs.Prelude.{Err, Ok}
 use Rattle.ec20.specs.Found.{Found}
 use Rattle.ec20.specs.Found.{At, Nowhere}
 use Rattle.ec20.specs.Judged.{Judged}
-use Rattle.ec20.specs.Judged.{Fine, Fault}
+use Rattle.ec20.specs.Judged.{Fine}
 use Rattle.ec20.specs.Moved.{Moved}
 use Rattle.ec20.specs.Moved.{To, Refused}
 use Rattle.ec20.specs.Verdict.{Verdict}
-use Rattle.ec20.specs.Verdict.{Accepted, Refused as Unfit}
+use Rattle.ec20.specs.Verdict.{Refused as Unfit}
 use Rattle.ec20.specs.Basics.{then}
 use Rattle.ec20.specs.Check.{check_for}
 use Rattle.ec20.specs.Devices.{Device}

@@ -9,7 +9,7 @@ use Rattle.std.specs.Prelude.{Err, Ok}
 use Rattle.ec20.specs.Scanned.{Scanned}
 use Rattle.ec20.specs.Scanned.{Ended, Watchdog, Refused}
 use Rattle.ec20.specs.Verdict.{Verdict}
-use Rattle.ec20.specs.Verdict.{Accepted, Refused as Unfit}
+use Rattle.ec20.specs.Verdict.{Refused as Unfit}
 use Rattle.ec20.specs.Basics.{pick}
 use Rattle.ec20.specs.Check.{check_for}
 use Rattle.ec20.specs.Code.{program_of}

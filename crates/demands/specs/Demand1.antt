@@ -9,6 +9,7 @@ use Rattle.ec20.specs.Scanned.{Scanned}
 use Rattle.ec20.specs.Scanned.{Ended, Watchdog, Refused as NotScanned}
 use Rattle.ec20.specs.Verdict.{Verdict}
 use Rattle.ec20.specs.Verdict.{Accepted, Refused}
+use Rattle.ec20.specs.Answers.{told_by_map}
 use Rattle.ec20.specs.Check.{check_for}
 use Rattle.ec20.specs.Code.{program_of}
 use Rattle.ec20.specs.Devices.{Device, ec20}
@@ -73,8 +74,8 @@ pub record ScanNumbers (v : Device) (f : List ℕ) (e b : ℕ) (q : Plant) (s : 
 -- The use map of f, to which no memory is lent: refused, it has "number and record only, every other field 0".
 pub record MapNumbers (v : Device) (f : List ℕ) : Type 0 where
   pub refused : (m k : ℕ) → check_for v f ≡ Refused m k
-      → map_for v f ≡ record { number = m; at = k; read = replicate (v.words / 8) 0; written = replicate (v.words / 8) 0 }
-  pub accepted : Accepts v f → ((map_for v f).number ≡ 0) × ((map_for v f).at ≡ 0)
+      → told_by_map v (map_for v f) ≡ record { number = m; at = k; read = replicate (v.words / 8) 0; written = replicate (v.words / 8) 0 }
+  pub accepted : Accepts v f → ((told_by_map v (map_for v f)).number ≡ 0) × ((told_by_map v (map_for v f)).at ≡ 0)
 
 -- The answer and the file m after the move of the block b of f into the pool l: "the mover adds 10 to 14 in order".
 pub record MoveNumbers (v : Device) (f : List ℕ) (b : Block) (l : Pool) (m : Move) : Type 0 where

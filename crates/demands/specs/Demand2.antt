@@ -4,6 +4,7 @@ use Rattle.std.specs.Prelude.{ℕ, ◌*◌, ◌/◌, ◌≤◌, ◌<◌, List, �
 use Rattle.ec20.specs.declared.Report.{Report}
 use Rattle.ec20.specs.Scanned.{Scanned}
 use Rattle.ec20.specs.Scanned.{Ended, Watchdog}
+use Rattle.ec20.specs.Answers.{told_by_map}
 use Rattle.ec20.specs.Bits.{bit_at}
 use Rattle.ec20.specs.Code.{program_of}
 use Rattle.ec20.specs.Devices.{Device, ec20}
@@ -50,7 +51,7 @@ pub record Scans (v : Device) (f : List ℕ) (n w : ℕ) : Type 0 where
   -- "No scan changes WORK, D7900 to D7999."
   pub work : (e b : ℕ) (q : Plant) (i : ℕ) → Work v i → word_at (scan_for v f e b q).plant.mem.d i ≡ word_at q.mem.d i
   -- "A word not marked written is changed by no scan.": of the words, a multiple of eight, each has its bit
-  pub unmarked : (e b : ℕ) (q : Plant) (i : ℕ) → i < 8 * (v.words / 8) → bit_at (map_for v f).written i ≡ 0
+  pub unmarked : (e b : ℕ) (q : Plant) (i : ℕ) → i < 8 * (v.words / 8) → bit_at (told_by_map v (map_for v f)).written i ≡ 0
       → word_at (scan_for v f e b q).plant.mem.d i ≡ word_at q.mem.d i
 
 -- THE DEMAND, of a file f that the EC20 accepts with n records and W = w: the theorem is `check_of f ≡ Accepted n w → Demand2 f n w`.

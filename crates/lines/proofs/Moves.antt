@@ -74,10 +74,10 @@ module _ (v : Device) (f : List ℕ) (b : Block) (l : Pool) where
       → (Not10 v b → Judges 13 (count_of f) line-13 m)
       → (Not10 v b → Not11 v l → Finds z)
       → Told v f b l (move_if (then i (then j (then k m))) z f b).answer
-  by_order w (Err r2) j k m z x y u s h = rw (x.0, x.1) (told_10 w x.2)
-  by_order w Fine (Err r2) k m z x y u s h = rw (y.0, y.1) (told_11 w x y.2)
-  by_order w Fine Fine (Err r2) m z x y u s h = let t = u x in rw (t.0, t.1) (told_12 w x y t.2)
-  by_order w Fine Fine Fine (Err r2) z x y u s h = let t = s x in rw t.0 (told_13 w x y (u x) t.1)
+  by_order w (Err _) j k m z x y u s h = rw (x.0, x.1) (told_10 w x.2)
+  by_order w Fine (Err _) k m z x y u s h = rw (y.0, y.1) (told_11 w x y.2)
+  by_order w Fine Fine (Err _) m z x y u s h = let t = u x in rw (t.0, t.1) (told_12 w x y t.2)
+  by_order w Fine Fine Fine (Err _) z x y u s h = let t = s x in rw t.0 (told_13 w x y (u x) t.1)
   by_order w Fine Fine Fine Fine z x y u s h = by_place w x y (u x) (s x) z (h x y)
 
   by-verdict : (r : Verdict) → check_for v f ≡ r → Told v f b l (move_after v r f b l).answer

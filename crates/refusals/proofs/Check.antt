@@ -116,7 +116,7 @@ module _ (v : Device) (f : List ℕ) where
   by_order n (Err r) b c d w x y z = by_number n w.0 w.1
   by_order n Fine (Err r) c d w x y z = rw x.0 (told_5 n w x.1)
   by_order n Fine Fine (Err r) d w x y z = rw y.0 (told_6 n w x y.1)
-  by_order n Fine Fine Fine (Err r2) w x y z = let r = z refl in rw r.0 (told_7 n w x y r.1)
+  by_order n Fine Fine Fine (Err _) w x y z = let r = z refl in rw r.0 (told_7 n w x y r.1)
   by_order n Fine Fine Fine Fine w x y z = by-steps n w x y (z refl)
 
   pub told : Told v f (check_for v f)
