@@ -1,18 +1,18 @@
 -- A word at 16 bits, else a pair, of words that are there. Assumes nothing.
 use Prim.Native.Nat.{◌+◌, ◌^◌}
-use native.Mathlib.Omega.{arith}
 use borrow.Author.Tests.{ne_eqb}
 use Rattle.ec20.specs.Registers.{word_at, number_at}
 use Rattle.words.proofs.Steps.{Told, word_read, pair_read}
 use Rattle.words.proofs.number_in.Goals as goal
+use Rattle.words.proofs.number_in.Goals.{After-wide16-in_default, After-wide16-in_default-2}
 
 -- the two words of a pair
-high : (c : goal.After-wide16-in_default) → Told (2 ^ 15) c.wide16-in_default.result (word_at c.args.d.now c.args.i)
+high : (c : After-wide16-in_default) → Told (2 ^ 15) c.wide16-in_default.result (word_at c.args.d.now c.args.i)
 high c =
     let a = c.args in
     word_read a.d.now a.i c.wide16-in_default.type_inv c.wide16-arg-in_default-1.given c.wide16-in_default.ensures
 
-low : (c : goal.After-wide16-in_default-2) → Told (2 ^ 15) c.wide16-in_default-2.result (word_at c.args.d.now (c.args.i + 1))
+low : (c : After-wide16-in_default-2) → Told (2 ^ 15) c.wide16-in_default-2.result (word_at c.args.d.now (c.args.i + 1))
 low c =
     let a = c.args in
     word_read a.d.now (a.i + 1) c.wide16-in_default-2.type_inv c.wide16-arg-in_default-2-1.given c.wide16-in_default-2.ensures

@@ -1,9 +1,7 @@
 -- The bits of the two words, the first the high ones. Assumes nothing.
-use mathlib.Core.Path.{refl}
-use native.Mathlib.Omega.{arith}
 use mir.Syntax.{w64}
 use Rattle.ints.proofs.Parts.{said}
-use Rattle.words.proofs.Steps.{told, pair_read}
+use Rattle.words.proofs.Steps.{pair_read}
 use Rattle.words.proofs.pair_at.Goals as goal
 
 pub returns : goal.returns
