@@ -1,7 +1,7 @@
 // Coils: M bits read into a reply, and written from a request, by whole bytes: eight bits that reach over the edge of a byte are a shift of two.
 #![tactic(auto)]
 
-ghost use Rattle.std.specs.Prelude.{ℕ, ◌+◌, ◌*◌, ◌/◌, ◌%◌, ◌^◌, ◌<◌, ◌≤◌, min, length, List, ◌≡◌};
+ghost use Rattle.std.specs.Prelude.{ℕ, ◌+◌, ◌*◌, ◌/◌, ◌%◌, ◌^◌, ◌<◌, ◌≤◌, length, List, ◌≡◌};
 ghost use Rattle.coils.specs.Moved.{bytes_moved};
 ghost use Rattle.ec20.specs.Bits.{packed, spread};
 ghost use Rattle.ec20.specs.File.{byte_at};
@@ -10,18 +10,11 @@ ghost use Rattle.modbus.specs.Exceptions.{bytes_of};
 ghost use Rattle.modbus.specs.Replies.{coil_bytes};
 ghost use Rattle.modbus.specs.Writes.{coils_taken};
 
-// The smaller of two numbers.
-fn least(a: usize, b: usize) -> usize
-    ensures { result ≡ min a b }
-{
-    if a < b { a } else { b }
-}
-
 // Byte i, 0 where there is none.
 fn byte_at(b: &[u8], i: usize) -> u8
     ensures { result ≡ byte_at b.now i }
 {
-    if i < b.len() { b[i] } else { 0 }
+    b.get(i).copied().unwrap_or(0)
 }
 
 // The eight bits from bit s of the byte x on, which may reach into the byte y after it.
@@ -64,10 +57,8 @@ fn move_bytes(to: &mut [u8], at: usize, from: &[u8], i: usize, k: usize)
 {
     let first = i / 8;
     let s = i % 8;
-    let mut j = 0;
-    while j < k {
+    for j in 0..k {
         to[at + j] = across(from[first + j], from[first + j + 1], s);
-        j += 1;
     }
 }
 
@@ -103,7 +94,7 @@ pub fn write(m: &mut [u8], a: usize, f: &[u8], n: usize)
     if n == 0 {
         return;
     }
-    let i = least(n, 8 - a % 8);
+    let i = n.min(8 - a % 8);
     move_few(m, a, f, 56, i);
     if i < n {
         write_on(m, a, f, i, n);

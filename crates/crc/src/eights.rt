@@ -5,18 +5,12 @@
 ghost use Rattle.std.specs.Prelude.{◌+◌, ◌<◌, ◌≤◌, ◌^◌, length, ◌≡◌};
 ghost use Rattle.crc.specs.Eights.{Takes, eights, outs_of, plus, plus2, plus3};
 
-fn wide(b: u8) -> usize
-    ensures { (result ≡ b) × (result < 256) }
-{
-    b as usize
-}
-
 // Two bytes from number i on, the first lowest.
 fn pair(s: &[u8], i: usize) -> usize
     requires { i + 2 ≤ length s.now }
     ensures { Takes s.now i 2 result × (result < 2 ^ 16) }
 {
-    wide(s[i]) ^ (wide(s[i + 1]) * 0x100)
+    usize::from(s[i]) ^ (usize::from(s[i + 1]) * 0x100)
 }
 
 // Four bytes from number i on, the first lowest.

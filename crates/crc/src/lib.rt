@@ -17,7 +17,7 @@ fn all(s: &[u8]) -> usize
         c = eights::fold(c ^ eights::octet(s, i));
         i += 8;
     }
-    single::rest(s, i, c)
+    single::rest(&s[i..], c)
 }
 
 // The CRC of the first n bytes.

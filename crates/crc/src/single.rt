@@ -1,6 +1,6 @@
 // A byte at a time. What eight shifts make of the register's low byte comes from two tables of 16 entries, one for each half of that byte. The tables
 // are matches, since the compiler makes constant data of a match and would write a constant array to the stack.
-ghost use Rattle.std.specs.Prelude.{◌*◌, ◌<◌, ◌≤◌, drop, length, ◌≡◌};
+ghost use Rattle.std.specs.Prelude.{◌*◌, ◌<◌, ◌≡◌};
 ghost use Rattle.modbus.specs.Crc.{crc_byte, crc_from};
 
 // What eight shifts make of the low half of a byte.
@@ -58,20 +58,18 @@ fn byte(c: usize, b: u8) -> usize
     requires { c < 65536 }
     ensures { (result ≡ crc_byte c b) × (result < 65536) }
 {
-    let x = (c ^ b as usize) % 256;
+    let x = (c ^ usize::from(b)) % 256;
     (c / 256) ^ (high(x / 16) ^ low(x % 16))
 }
 
-// The register after the bytes from number first on.
-pub fn rest(s: &[u8], first: usize, register: usize) -> usize
-    requires { (first ≤ length s.now) × (register < 65536) }
-    ensures { (result ≡ crc_from register (drop first s.now)) × (result < 65536) }
+// The register after more bytes.
+pub fn rest(s: &[u8], register: usize) -> usize
+    requires { register < 65536 }
+    ensures { (result ≡ crc_from register s.now) × (result < 65536) }
 {
     let mut c = register;
-    let mut i = first;
-    while i < s.len() {
-        c = byte(c, s[i]);
-        i += 1;
+    for &b in s {
+        c = byte(c, b);
     }
     c
 }

@@ -9,23 +9,22 @@ use Rattle.coils.proofs.move_bytes.Goals as goal
 
 pub loop-j-init : goal.loop-j-init
 unfolding bytes_moved
-loop-j-init c = (omega arith, refl, refl)
+loop-j-init c = (refl, refl)
 
 pub loop-j-preserved : goal.loop-j-preserved
 loop-j-preserved c =
     let l = c.loop-j in
     let a = c.args in
     let k : ℕ = a.i / 8 + l.j in (
-      omega arith,
-      byte-moved a.to.now l.to a.at a.from.now a.i l.j c.across.result l.invariant.1
+      byte-moved a.to.now l.to a.at a.from.now a.i l.j c.across.result l.invariant.0
           (across-code a.from.now (a.i + 8 * l.j) k (a.i % 8) c.across.result (omega arith) (omega arith)
           (omega (arith, c.type_inv.from (a.i / 8 + l.j)))
           (omega (arith, c.type_inv.from (a.i / 8 + l.j + 1)))
           c.across.ensures),
-      length-set l.to _ _ ∙ l.invariant.2,
+      length-set l.to _ _ ∙ l.invariant.1,
     )
 
 pub returns : goal.returns
 returns c =
     let a = c.args in
-    c.loop-j.invariant.1 ∙ ap (bytes_moved a.to.now a.at a.from.now a.i) (omega arith)
+    c.loop-j.invariant.0 ∙ ap (bytes_moved a.to.now a.at a.from.now a.i) (omega arith)

@@ -17,5 +17,5 @@ returns-then-i-n c =
 pub returns-else-i-n : goal.returns-else-i-n
 returns-else-i-n c =
     let a = c.args in
-    let e : c.least-i.result ≡ a.n = omega (arith, c.least-i.ensures, c.if-i-n.false) in
+    let e : c.min-i.result ≡ a.n = omega (arith, c.min-i.ensures, c.if-i-n.false) in
     taken-first a.m.now _ a.a a.f.now _ c.move_few.ensures ∙ ap (coils_taken a.m.now a.a a.f.now) e

@@ -1,5 +1,4 @@
 -- The invariant: the reply has the first i registers from byte 3 on, and keeps its length. Assumes nothing.
-use Prim.Native.Nat.{◌≤◌, ◌-◌}
 use lib.ListN.{length}
 use mathlib.Core.Path.{◌≡◌}
 use Rattle.ec20.specs.Buffer.{over}
@@ -7,7 +6,4 @@ use Rattle.modbus.specs.Replies.{register_bytes}
 use Rattle.registers.proofs.read.Given as goal
 
 abbrev pub invariant-loop-i : goal.invariant-loop-i
-invariant-loop-i l = (l.i ≤ l.n) × (l.reply ≡ over 3 (register_bytes l.d l.a l.i) l.initial.reply) × (length l.reply ≡ length l.initial.reply)
-
-abbrev pub decreases-loop-i : goal.decreases-loop-i
-decreases-loop-i l = l.n - l.i
+invariant-loop-i l = (l.reply ≡ over 3 (register_bytes l.d l.a l.i) l.initial.reply) × (length l.reply ≡ length l.initial.reply)

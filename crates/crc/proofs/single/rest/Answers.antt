@@ -1,22 +1,8 @@
-use mathlib.Core.Path.{refl}
-use native.Mathlib.Omega.{arith}
 use Rattle.crc.proofs.Turns.{turn, done}
 use Rattle.crc.proofs.single.rest.Goals as goal
 
-pub loop-i-init : goal.loop-i-init
-loop-i-init c = (omega arith, omega arith, refl)
-
-pub bounds-s-i : goal.bounds-s-i
-bounds-s-i c = omega arith
-
-pub overflow_add-i : goal.overflow_add-i
-overflow_add-i c = omega arith
-
-pub loop-i-smaller : goal.loop-i-smaller
-loop-i-smaller c = omega arith
-
-pub loop-i-preserved : goal.loop-i-preserved
-loop-i-preserved c = (omega arith, c.byte-c.ensures.1, turn _ _ _ _ _ c.loop-i-test.true c.byte-c.ensures.0 c.loop-i.invariant.2)
+pub loop-b-preserved : goal.loop-b-preserved
+loop-b-preserved c = (c.byte-c.ensures.1, turn _ _ _ _ _ c.loop-b-test.true c.byte-c.ensures.0 c.loop-b.invariant.1)
 
 pub returns : goal.returns
-returns c = (done _ _ _ _ c.loop-i.invariant.0 c.loop-i-test.false c.loop-i.invariant.2, c.loop-i.invariant.1)
+returns c = (done _ _ _ _ c.loop-b.auto.b-index-end c.loop-b-test.false c.loop-b.invariant.1, c.loop-b.invariant.0)
