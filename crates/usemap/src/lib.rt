@@ -2,16 +2,16 @@
 #![tactic(auto)]
 
 ghost use Rattle.ec20.specs.Devices.{ec20};
-ghost use Rattle.ec20.specs.File.{framed, records_from, records_of};
+ghost use Rattle.ec20.specs.File.{records_from};
 ghost use Rattle.ec20.specs.Roles.{is_read, is_written};
 ghost use Rattle.ec20.specs.UseMap.{holds, some_operand, use_map_of};
 ghost use Rattle.instructions.specs.Cells.{cells};
 ghost use Rattle.marks.specs.Marked.{Widened};
 ghost use Rattle.records.specs.Ranges.{Small, SmallRec, Held};
-ghost use Rattle.usemap.specs.Maps.{read_by, written_by, map_in, refused_map};
+ghost use Rattle.usemap.specs.Maps.{read_by, written_by, maps_in};
 ghost use Rattle.std.specs.Prelude.{length, ◌&&◌, true, ◌≡◌};
 
-use ec20::{Frame, Mapped, Operand, Place, Rec, Row, Verdict};
+use ec20::{Frame, Operand, Place, Rec, Refusal, Row, UseMap};
 
 // The extent there is read: a source, or a target that is also read.
 fn is_read(p: Place) -> bool
@@ -58,72 +58,27 @@ fn mark_written(map: &mut [u8; 1000], w: Row, r: Rec)
 }
 
 // The maps of `count` records from the byte `first` on, by the table.
-fn map_by(rows: &[[u8; 11]; 56], f: &[u8], first: usize, count: usize) -> Mapped
+fn map_by(rows: &[[u8; 11]; 56], f: &[u8], first: usize, count: usize) -> UseMap
     requires rows_value { rows.now ≡ cells }
     requires held { Held (length f.now) first count }
-    ensures { result ≡ map_in (records_from f.now first count) }
+    ensures { result ≡ maps_in (records_from f.now first count) }
 {
     let mut read = [0u8; 1000];
     let mut written = [0u8; 1000];
-    let mut k = 0;
-    while k < count {
+    for k in 0..count {
         let r = records::record_from(f, first + 20 * k);
         let w = instructions::row_in(rows, r.number);
         mark_read(&mut read, w, r);
         mark_written(&mut written, w, r);
-        k += 1;
     }
-    Mapped {
-        number: 0,
-        at: 0,
-        read,
-        written,
-    }
+    UseMap { read, written }
 }
 
-// The same; the table is made once and lent.
-fn map_in(f: &[u8], first: usize, count: usize) -> Mapped
-    requires { Held (length f.now) first count }
-    ensures { result ≡ map_in (records_from f.now first count) }
-{
-    let rows = instructions::table();
-    map_by(&rows, f, first, count)
-}
-
-// "Number and record only, every other field 0."
-fn refused(number: usize, at: usize) -> Mapped
-    ensures { result ≡ refused_map number at }
-{
-    let read = [0u8; 1000];
-    let written = [0u8; 1000];
-    Mapped {
-        number,
-        at,
-        read,
-        written,
-    }
-}
-
-// The maps of an accepted file, whose frame is whole.
-fn map_accepted(file: &[u8]) -> Mapped
-    requires { framed file.now ≡ true }
-    ensures { result ≡ map_in (records_of file.now) }
-{
-    match records::frame(file) {
-        Frame::Whole { first, count } => map_in(file, first, count),
-        Frame::Broken => refused(1, 0),
-    }
-}
-
-// The use map of a file; of one that the check refuses, the number and the record told.
-pub fn use_map(file: &[u8]) -> Mapped
+// The use map of a file; of one that the check refuses, the number and the record told. The table is made once and lent.
+pub fn use_map(file: &[u8]) -> Result<UseMap, Refusal>
     ensures { result ≡ use_map_of file.now }
 {
-    match checker::check(file) {
-        Verdict::Refused { number, record } => refused(number, record),
-        Verdict::Accepted {
-            records: _,
-            steps: _,
-        } => map_accepted(file),
-    }
+    let Frame { first, count } = checker::accept(file)?;
+    let rows = instructions::table();
+    Ok(map_by(&rows, file, first, count))
 }

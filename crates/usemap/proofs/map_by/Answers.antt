@@ -1,5 +1,4 @@
 use native.Mathlib.Omega.{arith}
-use Prim.Native.Nat.{◌-◌}
 use Rattle.ec20.specs.Devices.{ec20}
 use Rattle.marks.proofs.Walk.{passed_none, passed-more}
 use Rattle.usemap.specs.Maps.{read_by, written_by}
@@ -26,12 +25,6 @@ mark_read-requires c = c.record_from-r.ensures.1
 
 pub mark_written-requires : goal.mark_written-requires
 mark_written-requires c = c.record_from-r.ensures.1
-
-pub overflow_add-k : goal.overflow_add-k
-overflow_add-k c = omega arith
-
-pub loop-k-smaller : goal.loop-k-smaller
-loop-k-smaller c = omega arith
 
 pub loop-k-preserved : goal.loop-k-preserved
 loop-k-preserved c =

@@ -1,12 +1,11 @@
-use Rattle.checker.proofs.Accepted.{accepted-framed}
+use Rattle.std.proofs.lemmas.Result.{err_from_is_err_and}
 use Rattle.usemap.proofs.Laws.{unfit-map, fit-map}
 use Rattle.usemap.proofs.use_map.Goals as goal
 
-pub map_accepted-requires : goal.map_accepted-requires
-map_accepted-requires c = accepted-framed _ c.check.ensures c.in-Accepted.is
+pub returns-in_err-first : goal.returns-in_err-first
+returns-in_err-first c =
+    let p = err_from_is_err_and c.from_residual.result c.from_residual.ensures.1 in
+    rw (p.1, p.2) (unfit-map _ c.in_err-first.ensures.value)
 
-pub returns-in-Refused : goal.returns-in-Refused
-returns-in-Refused c = unfit-map _ c.check.ensures c.in-Refused.is c.refused.ensures
-
-pub returns-in-Accepted : goal.returns-in-Accepted
-returns-in-Accepted c = fit-map _ c.check.ensures c.in-Accepted.is c.map_accepted.ensures
+pub returns : goal.returns
+returns c = fit-map _ c.in_ok-first.ensures.value c.map_by.ensures

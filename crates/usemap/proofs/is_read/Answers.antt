@@ -1,5 +1,0 @@
-use mathlib.Core.Path.{refl}
-use Rattle.usemap.proofs.is_read.Goals as goal
-
-pub returns : goal.returns
-returns c = refl
