@@ -1,19 +1,36 @@
 // A request by its numbers: n the function, a the first address, q the quantity (of 5 and 6: the value), c the byte count, l the frame's length.
 #![tactic(auto)]
 
-ghost use Rattle.std.specs.Prelude.{◌<◌, ◌≤◌, length, ◌≡◌};
+ghost use Rattle.std.specs.Prelude.{◌<◌, ◌≤◌, length, Some, ◌≡◌};
 ghost use Rattle.ec20.specs.File.{byte_at};
 ghost use Rattle.modbus.specs.Exceptions.{quantity_fits, is_of_coils, is_single, meant, range_fits, exception_for, exception_of};
+ghost use Rattle.frames.specs.Exception.{code_of};
 ghost use Rattle.modbus.specs.Frame.{number_in, is_short, is_long, length_fits, crc_fits};
+
+// Why a request is not done: its function, its range, or its quantity or value.
+#[derive(Clone, Copy, PartialEq, Eq)]
+pub enum Exception {
+    Function,
+    Range,
+    Quantity,
+}
+
+// Its number: 01, 02 and 03.
+pub fn code(e: Exception) -> u8
+    ensures { (result ≡ code_of (Some e)) × (result < 4) }
+{
+    match e {
+        Exception::Function => 1,
+        Exception::Range => 2,
+        Exception::Quantity => 3,
+    }
+}
 
 // Byte i of the frame, 0 where there is none.
 pub fn byte_at(f: &[u8], i: usize) -> usize
     ensures { (result ≡ byte_at f.now i) × (result < 256) }
 {
-    if f.len() <= i {
-        return 0;
-    }
-    records::wide(f[i])
+    usize::from(f.get(i).copied().unwrap_or(0))
 }
 
 // Two bytes as a number, the high byte first.
@@ -108,32 +125,32 @@ fn range_fits(n: usize, a: usize, q: usize) -> bool
     (a + k <= 8000) & ((n == 3) | !faults::meets_work(a, k))
 }
 
-// The exception, or 0: 01, 03 and 02 in this order.
-fn exception(n: usize, a: usize, q: usize, c: usize) -> usize
+// The exception, if there is one: 01, 03 and 02 in this order.
+fn judge(n: usize, a: usize, q: usize, c: usize) -> Option<Exception>
     requires { (a < 65536) × (q < 65536) }
-    ensures { (result ≡ exception_for n a q c) × (result < 4) }
+    ensures { code_of result ≡ exception_for n a q c }
 {
     if !(is_short(n) | is_long(n)) {
-        return 1;
+        return Some(Exception::Function);
     }
     let fits = quantity_fits(n, q, c);
     let inside = range_fits(n, a, q);
     if !fits {
-        return 3;
+        return Some(Exception::Quantity);
     }
     if !inside {
-        return 2;
+        return Some(Exception::Range);
     }
-    0
+    None
 }
 
 // That of a request.
-pub fn exception_of(f: &[u8]) -> usize
-    ensures { (result ≡ exception_of f.now) × (result < 4) }
+pub fn exception_of(f: &[u8]) -> Option<Exception>
+    ensures { code_of result ≡ exception_of f.now }
 {
     let n = byte_at(f, 1);
     let a = number_in(f, 2);
     let q = number_in(f, 4);
     let c = byte_at(f, 6);
-    exception(n, a, q, c)
+    judge(n, a, q, c)
 }
