@@ -5,13 +5,14 @@ ghost use Rattle.std.specs.Prelude.{◌<◌, ◌^◌, length, ◌≡◌};
 ghost use Rattle.ec20.specs.File.{records_from};
 ghost use Rattle.ec20.specs.Move.{block, split_fault};
 ghost use Rattle.ec20.specs.Move.{touches as touchesOf, partly as partlyOf};
-ghost use Rattle.ec20.specs.UseMap.{some_operand, record_has};
+ghost use Rattle.ec20.specs.UseMap.{record_has};
 ghost use Rattle.instructions.specs.Cells.{cells};
 ghost use Rattle.records.specs.Ranges.{Small, SmallRec, Held};
 
-use ec20::{Judged, Operand, Place, Rec, Row};
+use ec20::{Operand, Place, Rec, Refusal};
 
 // The operand's extent in D meets the n words from `start` on.
+#[tactic(auto, unfolding(ec20::specs::Move::touches))]
 fn touches(start: usize, n: usize, p: Place, o: Operand) -> bool
     requires { (start < 2 ^ 32) × (n < 2 ^ 32) × Small o }
     ensures { result ≡ touchesOf (block start n) p o }
@@ -20,6 +21,7 @@ fn touches(start: usize, n: usize, p: Place, o: Operand) -> bool
 }
 
 // It meets them, and is not inside them.
+#[tactic(auto, unfolding(ec20::specs::Move::partly))]
 fn partly(start: usize, n: usize, p: Place, o: Operand) -> bool
     requires { (start < 2 ^ 32) × (n < 2 ^ 32) × Small o }
     ensures { result ≡ partlyOf (block start n) p o }
@@ -27,53 +29,35 @@ fn partly(start: usize, n: usize, p: Place, o: Operand) -> bool
     touches(start, n, p, o) & !blocks::inside(extents::start(o), extents::length(p, o), start, n)
 }
 
-// One of the record's operands does, by this row.
-fn some_partly(start: usize, n: usize, w: Row, r: Rec) -> bool
-    requires { (start < 2 ^ 32) × (n < 2 ^ 32) × SmallRec r }
-    ensures { result ≡ some_operand (partlyOf (block start n)) w r }
-{
-    partly(start, n, w.first, r.first)
-        | partly(start, n, w.second, r.second)
-        | partly(start, n, w.third, r.third)
-}
-
-// One of the record's operands does, by the record's own row.
+// One of the record's operands does.
+#[tactic(auto, unfolding(ec20::specs::UseMap::some_operand))]
 fn is_split(rows: &[[u8; 11]; 56], start: usize, n: usize, r: Rec) -> bool
     requires rows_value { rows.now ≡ cells }
     requires start_bound { (start < 2 ^ 32) × (n < 2 ^ 32) × SmallRec r }
     ensures { result ≡ record_has (partlyOf (block start n)) r }
 {
-    some_partly(start, n, instructions::row_in(rows, r.number), r)
+    let w = instructions::row_in(rows, r.number);
+    partly(start, n, w.first, r.first)
+        | partly(start, n, w.second, r.second)
+        | partly(start, n, w.third, r.third)
 }
 
-// The first of the records that the block splits, by the table.
-fn split_by(
-    rows: &[[u8; 11]; 56],
+// The first of the records that the block splits.
+pub fn first_split(
     f: &[u8],
     first: usize,
     count: usize,
     start: usize,
     n: usize,
-) -> Judged
-    requires rows_value { rows.now ≡ cells }
-    requires held { Held (length f.now) first count × (start < 2 ^ 32) × (n < 2 ^ 32) }
-    ensures { result ≡ split_fault (records_from f.now first count) (block start n) }
-{
-    let mut k = 0;
-    while k < count {
-        if is_split(rows, start, n, records::record_from(f, first + 20 * k)) {
-            return Judged::Fault(13, k);
-        }
-        k += 1;
-    }
-    Judged::Fine
-}
-
-// The first of the records that the block splits.
-pub fn first_split(f: &[u8], first: usize, count: usize, start: usize, n: usize) -> Judged
+) -> Result<(), Refusal>
     requires { Held (length f.now) first count × (start < 2 ^ 32) × (n < 2 ^ 32) }
     ensures { result ≡ split_fault (records_from f.now first count) (block start n) }
 {
     let rows = instructions::table();
-    split_by(&rows, f, first, count, start, n)
+    for k in 0..count {
+        if is_split(&rows, start, n, records::record_from(f, first + 20 * k)) {
+            return Err(Refusal { number: 13, at: k });
+        }
+    }
+    Ok(())
 }

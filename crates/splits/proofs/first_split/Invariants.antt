@@ -5,12 +5,9 @@ use Rattle.ec20.specs.Basics.{first_at}
 use Rattle.ec20.specs.File.{record_from}
 use Rattle.ec20.specs.Move.{block, partly}
 use Rattle.ec20.specs.UseMap.{record_has}
-use Rattle.splits.proofs.split_by.Given as goal
+use Rattle.splits.proofs.first_split.Given as goal
 
 abbrev pub invariant-loop-k : goal.invariant-loop-k
 invariant-loop-k l =
     (l.k ≤ l.count)
     × (first_at (λ (j : ℕ). record_has (partly (block l.start l.n)) (record_from l.f (l.first + 20 * j))) 0 l.count ≡ first_at (λ (j : ℕ). record_has (partly (block l.start l.n)) (record_from l.f (l.first + 20 * j))) l.k (l.count - l.k))
-
-abbrev pub decreases-loop-k : goal.decreases-loop-k
-decreases-loop-k l = l.count - l.k

@@ -1,29 +1,14 @@
-use Prim.Native.Nat.{◌-◌}
+use borrow.Author.Rules.{rules}
 use mathlib.Core.Path.{refl, sym, ap, ◌∙◌}
 use native.Mathlib.Nat.{sub-zero}
-use native.Mathlib.Omega.{arith}
 use Rattle.ec20.specs.Basics.{refused_at}
-use Rattle.ec20.specs.File.{record_from}
 use Rattle.ec20.specs.Move.{block, partly, split_fault}
 use Rattle.ec20.specs.UseMap.{record_has}
 use Rattle.labels.proofs.Laws.{passes, fails, none}
-use borrow.Author.Rules.{rules}
-use Rattle.splits.proofs.split_by.Goals as goal
+use Rattle.splits.proofs.first_split.Goals as goal
 
 pub loop-k-init : goal.loop-k-init
 loop-k-init c = (search rules, rw sub-zero refl)
-
-pub overflow_mul-k : goal.overflow_mul-k
-overflow_mul-k c = omega (arith, c.requires.held.0.most)
-
-pub overflow_add-first : goal.overflow_add-first
-overflow_add-first c = omega (arith, c.requires.held.0.whole, c.requires.held.0.most)
-
-pub record_from-requires : goal.record_from-requires
-record_from-requires c = omega (arith, c.requires.held.0.whole)
-
-pub is_split-requires : goal.is_split-requires
-is_split-requires c = record { rows_value = c.requires.rows_value; start_bound = (c.requires.held.1, c.requires.held.2, c.record_from.ensures.1) }
 
 pub returns-then-is_split : goal.returns-then-is_split
 unfolding split_fault
