@@ -18,8 +18,8 @@ use Rattle.ec20.specs.Basics.{pick, one_if}
 use Rattle.ec20.specs.Numbers.{bits_in, half, signed}
 use Rattle.ec20.specs.Registers.{word_at, number_at, with_number}
 use Rattle.ec20.specs.Bits.{packed, with_bit, group_at, with_group}
-use Rattle.ec20.specs.Memory.{Memory, memory, group_bits, store_bit, constant_at, load_of, store_of, following, with_sm}
-use Rattle.ec20.specs.Words.{with_flags, store_all}
+use Rattle.ec20.specs.Memory.{Memory, memory, group_bits, store_bit, constant_at, load_of, store_of, following}
+use Rattle.ec20.specs.Words.{with_flags}
 use Rattle.ec20.specs.Flow.{coil_of}
 use Rattle.ec20.specs.declared.Units.{Units}
 use Rattle.ec20.specs.Timers.{units_of, old_of, counted_of, contact_is, limit_at, timer_of}

@@ -195,9 +195,8 @@ fn next(words: usize, o: Operand) -> Operand
     ensures { result ≡ record { kind = o.kind; group = o.group; value = o.value + words } }
 {
     Operand {
-        kind: o.kind,
-        group: o.group,
         value: o.value + words,
+        ..o
     }
 }
 
@@ -243,8 +242,7 @@ fn store_bit(o: Operand, b: usize, y: &mut [u8], m: &mut [u8])
     requires { b < 2 }
     ensures { (x sm t : List ℕ) (d tv : List ℤ) → memory x y.new m.new sm t d tv ≡ store_bit o b (memory x y.old m.old sm t d tv) }
 {
-    let k = o.kind;
-    match k {
+    match o.kind {
         3 => bits::put_bit(y, o.value, b),
         4 => bits::put_bit(m, o.value, b),
         _ => {}
@@ -256,9 +254,9 @@ fn written(n: usize, on: bool) -> usize
     ensures { (result ≡ pick (eqb n 12) (one_if on) (one_if (eqb n 13))) × (result < 2) }
 {
     if n == 12 {
-        on as usize
+        usize::from(on)
     } else {
-        (n == 13) as usize
+        usize::from(n == 13)
     }
 }
 
@@ -305,15 +303,14 @@ fn counted(on: bool, limit: usize, units: usize, z: i64) -> usize
     if !on {
         return 0;
     }
-    let n = old(z) + units;
-    if n < limit { n } else { limit }
+    limit.min(old(z) + units)
 }
 
 // "contact on exactly if it equals the constant. Without flow: .. contact off."
 fn contact(on: bool, limit: usize, n: usize) -> usize
     ensures { (result ≡ contact_is on limit n) × (result < 2) }
 {
-    if on { (n == limit) as usize } else { 0 }
+    if on { usize::from(n == limit) } else { 0 }
 }
 
 // "TON": timer i with this constant, with flow or not, in a scan that gives these units.

@@ -1,13 +1,11 @@
 -- By the flow and the constant. Assumes nothing.
-use lib.Dec.{eqb}
-use Rattle.operands.proofs.Steps.{bit-of}
 use Rattle.ec20.specs.Timers.{contact_is}
 use borrow.Author.Rules.{rules}
 use Rattle.operands.proofs.contact.Goals as goal
 
 pub returns-then-on : goal.returns-then-on
 unfolding contact_is
-returns-then-on c = rw c.if-on.true (bit-of (eqb c.args.n c.args.limit))
+returns-then-on c = rw c.if-on.true (search rules)
 
 pub returns-else-on : goal.returns-else-on
 unfolding contact_is

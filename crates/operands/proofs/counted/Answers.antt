@@ -11,14 +11,8 @@ pub returns-then-not-on : goal.returns-then-not-on
 unfolding counted_of
 returns-then-not-on c = rw c.if-not-on.true (search rules)
 
-pub returns-then-n-limit : goal.returns-then-n-limit
+pub returns : goal.returns
 unfolding counted_of
-returns-then-n-limit c =
+returns c =
     let e = c.old.ensures.0 ∙ ap old_of (to_z-of_z c.ranges.z) in
-    rw c.if-not-on.false (omega (arith, e), omega arith)
-
-pub returns-else-n-limit : goal.returns-else-n-limit
-unfolding counted_of
-returns-else-n-limit c =
-    let e = c.old.ensures.0 ∙ ap old_of (to_z-of_z c.ranges.z) in
-    rw c.if-not-on.false (omega (arith, e), omega arith)
+    rw c.if-not-on.false (omega (arith, e, c.min.ensures), omega (arith, c.min.ensures))

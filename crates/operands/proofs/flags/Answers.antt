@@ -1,11 +1,7 @@
 -- Where the outcome has flags. Assumes nothing.
-use borrow.Author.Tests.{ne_eqb}
 use Rattle.operands.proofs.Steps.{flags-put}
 use Rattle.operands.proofs.flags.Goals as goal
 
 pub returns-then-r-eq1 : goal.returns-then-r-eq1
 returns-then-r-eq1 c =
     flags-put c.args.r _ _ _ c.if-r-eq1.true c.put_bit.ensures c.put_bit-then-r-eq1.ensures c.put_bit-then-r-eq1-2.ensures
-
-pub returns-else-r-eq1 : goal.returns-else-r-eq1
-returns-else-r-eq1 c = rw (ne_eqb _ _ c.if-r-eq1.false)

@@ -5,12 +5,8 @@ use lib.ListN.{set}
 use Rattle.ec20.specs.Bits.{with_bit}
 use Rattle.ec20.specs.Timers.{counted_of, limit_at}
 use mathlib.Core.Path.{ap, ap₂, ◌∙◌}
-use native.Mathlib.Omega.{arith}
-use Rattle.operands.proofs.Steps.{told, timed}
+use Rattle.operands.proofs.Steps.{timed}
 use Rattle.operands.proofs.timer.Goals as goal
-
-pub put_word-requires : goal.put_word-requires
-put_word-requires c = (told 32768 c.whole.type_inv c.whole.ensures (omega (arith, c.counted-n.ensures.1))).1
 
 pub returns : goal.returns
 returns c =
