@@ -3,7 +3,6 @@ use Prim.Native.Nat.{ℕ, ◌+◌, ◌*◌, ◌/◌, ◌%◌, ◌≤◌, ◌<◌
 use mathlib.Core.Bool.{Bool, true, false, ◌&&◌, ◌||◌}
 use mathlib.Core.List.{List, [], ◌∷◌, ◌++◌}
 use mathlib.Core.Path.{◌≡◌, refl, sym, ap, ◌∙◌}
-use native.Mathlib.Numerals.{add-one}
 use native.Mathlib.Omega.{arith}
 use lib.Dec.{leb, eqb}
 use lib.IntN.{ℤ}
@@ -20,8 +19,7 @@ use Rattle.ec20.specs.File.{byte_at}
 use Rattle.ec20.proofs.BufferLaws.{append_assoc, sent-none, sent-more, sent-take, sent-over}
 use Rattle.modbus.proofs.Good.{four, eight-bytes, read-coils, read-registers, write-coils, write-registers}
 use Rattle.modbus.proofs.Lengths.{coils-told, registers-told}
-use Rattle.modbus.specs.Answered.{Answered}
-use Rattle.modbus.specs.Answered.{Refused, Silent, Reply}
+use Rattle.modbus.specs.Answered.{Silent, Reply}
 use Rattle.modbus.specs.Answer.{Answer, tables_fault, call_fault, judge_answer, replied, heard, answer_of}
 use Rattle.ec20.specs.Buffer.{over, sent}
 use Rattle.modbus.specs.Crc.{crc_of, with_crc}
@@ -29,6 +27,11 @@ use Rattle.modbus.specs.Exceptions.{value_on, bytes_of, exception_of}
 use Rattle.modbus.specs.Frame.{station_of, function_of, address_of, quantity_of, byte_count_of, length_fits, crc_fits, is_broadcast, is_heard}
 use Rattle.modbus.specs.Replies.{coil_bytes, register_bytes, coils_reply, registers_reply, reply_to, exception_to}
 use Rattle.modbus.specs.Writes.{coils_taken, word_of, registers_taken, coils_after, registers_after}
+use Rattle.std.specs.Prelude.{Some, Err}
+use Rattle.ec20.specs.declared.Refusal.{Refusal}
+use Rattle.frames.specs.Exception.{code_of}
+use Rattle.frames.specs.declared.Exception.{Exception}
+use Rattle.frames.specs.declared.Exception.TheVariants.{Function, Range, Quantity}
 use Rattle.requests.specs.Fit.{Fit}
 
 -- ---- hearing
@@ -53,12 +56,10 @@ module _ (own : ℕ) (f : List ℕ) (s n c : ℕ) (t : Bool) (es : s ≡ byte_at
 
 -- ---- replies
 
--- one byte more of the request
-pub repeat-more : (f b r : List ℕ) (i : ℕ) → i < length f → i < length b → r ≡ sent (take i f) b → set r i (byte_at f i) ≡ sent (take (i + 1) f) b
-repeat-more f b r i l h e =
-    ap (λ (t : List ℕ). set t i (byte_at f i)) e
-    ∙ sent-more (take i f) b (byte_at f i) i (sym (length-take-le i f (omega arith))) h
-    ∙ ap (λ (t : List ℕ). sent t b) (sym (take-suc f i 0 l) ∙ ap (λ (k : ℕ). take k f) (sym (add-one i)))
+-- the first bytes of the request
+pub repeated : (f b : List ℕ) (n : ℕ) → n ≤ length f → take n f ++ drop n b ≡ sent (take n f) b
+unfolding sent
+repeated f b n l = ap (λ (k : ℕ). take n f ++ drop k b) (sym (length-take-le n f l))
 
 -- an exception is three bytes
 pub three-bytes : (b : List ℕ) (x y z : ℕ) → 256 ≤ length b → set (set (set b 0 x) 1 y) 2 z ≡ sent (x ∷ y ∷ z ∷ []) b
@@ -221,6 +222,12 @@ module _ (f : List ℕ) (n a q : ℕ) (en : n ≡ function_of f) (ea : a ≡ add
 
 -- ---- a frame that is heard
 
+-- an exception has a number
+pub some-code : (e : Exception) → code_of (Some e) ≡ 0 → ⊥
+some-code Function h = omega (arith, h)
+some-code Range h = omega (arith, h)
+some-code Quantity h = omega (arith, h)
+
 module _ (f m : List ℕ) (d : List ℤ) (b : List ℕ) (t : Bool) (et : t ≡ is_broadcast f) where
   module _ (good : exception_of f ≡ 0) (u : List ℕ) (v : List ℤ) (eu : u ≡ coils_after f m) (ev : v ≡ registers_after f d) where
     -- a good broadcast
@@ -229,9 +236,9 @@ module _ (f m : List ℕ) (d : List ℤ) (b : List ℕ) (t : Bool) (et : t ≡ i
     heard_all e = rw (sym et ∙ e, eq-eqb _ _ good, eu, ev) refl
 
     -- a good request and its reply
-    pub heard-good : t ≡ false → (k : ℕ) (w x : List ℕ) (r : Answered) → Told (reply_to f m d) b k w
-        → ((s c : List ℕ) → k ≡ length s → w ≡ sent s c → (r ≡ Reply (length (with_crc s))) × (x ≡ sent (with_crc s) c))
-        → record { answer = r; m = u; d = v; reply = x } ≡ heard f m d b
+    pub heard-good : t ≡ false → (k : ℕ) (w x : List ℕ) (r : ℕ) → Told (reply_to f m d) b k w
+        → ((s c : List ℕ) → k ≡ length s → w ≡ sent s c → (r ≡ length (with_crc s)) × (x ≡ sent (with_crc s) c))
+        → record { answer = Reply r; m = u; d = v; reply = x } ≡ heard f m d b
     unfolding heard replied
     heard-good e k w x r h c =
         let q = c (reply_to f m d) b h.1 h.0 in
@@ -247,9 +254,9 @@ module _ (f m : List ℕ) (d : List ℤ) (b : List ℕ) (t : Bool) (et : t ≡ i
     heard-ignored e = rw (sym et ∙ e, wrong) refl
 
     -- an exception
-    pub heard-exception : t ≡ false → (j : ℕ) (w x : List ℕ) (r : Answered) → w ≡ sent (exception_to f k) b → j ≡ 3
-        → ((s c : List ℕ) → j ≡ length s → w ≡ sent s c → (r ≡ Reply (length (with_crc s))) × (x ≡ sent (with_crc s) c))
-        → record { answer = r; m = m; d = d; reply = x } ≡ heard f m d b
+    pub heard-exception : t ≡ false → (j : ℕ) (w x : List ℕ) (r : ℕ) → w ≡ sent (exception_to f k) b → j ≡ 3
+        → ((s c : List ℕ) → j ≡ length s → w ≡ sent s c → (r ≡ length (with_crc s)) × (x ≡ sent (with_crc s) c))
+        → record { answer = Reply r; m = m; d = d; reply = x } ≡ heard f m d b
     unfolding heard replied exception_to
     heard-exception e j w x r h l c =
         let q = c (exception_to f k) b l h in
@@ -258,10 +265,9 @@ module _ (f m : List ℕ) (d : List ℤ) (b : List ℕ) (t : Bool) (et : t ≡ i
 -- ---- the whole
 
 module _ (own : ℕ) (f m : List ℕ) (d : List ℤ) (b : List ℕ) where
-  pub refused : (j : Judged) (n k : ℕ) → j ≡ judge_answer own m d b → j ≡ Fault n k
-      → record { answer = Refused n k; m = m; d = d; reply = b } ≡ answer_of own f m d b
+  pub refused : (j : Judged) (r : Refusal) → j ≡ judge_answer own m d b → j ≡ Err r → record { answer = Err r; m = m; d = d; reply = b } ≡ answer_of own f m d b
   unfolding answer_of
-  refused j n k e q = rw (sym e ∙ q) refl
+  refused j r e q = rw (sym e ∙ q) refl
 
   module _ (j : Judged) (ej : j ≡ judge_answer own m d b) (ok : j ≡ Fine) (t : Bool) (et : t ≡ is_heard own f) where
     pub unheard : t ≡ false → record { answer = Silent; m = m; d = d; reply = b } ≡ answer_of own f m d b

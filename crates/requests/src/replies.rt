@@ -2,35 +2,17 @@
 ghost use Rattle.std.specs.Prelude.{ℕ, ◌+◌, ◌<◌, ◌≤◌, length, take, List, [], ◌∷◌, ◌++◌, ◌≡◌};
 ghost use Rattle.ec20.specs.Buffer.{sent};
 ghost use Rattle.modbus.specs.Crc.{with_crc};
-ghost use Rattle.modbus.specs.Answered.{Answered};
-ghost use Rattle.modbus.specs.Answered.{Reply};
 ghost use Rattle.modbus.specs.Frame.{function_of};
 ghost use Rattle.modbus.specs.Replies.{coils_reply, registers_reply, reply_to, exception_to};
 ghost use Rattle.requests.specs.Fit.{Fit};
-
-use modbus::Answered;
-
-// The first n bytes of the request.
-fn repeat(f: &[u8], reply: &mut [u8], n: usize)
-    requires { (n ≤ length f.now) × (n ≤ length reply.old) }
-    ensures { reply.new ≡ sent (take n f.now) reply.old }
-{
-    let mut i = 0;
-    while i < n {
-        reply[i] = f[i];
-        i += 1;
-    }
-}
 
 // Station and function of the request, and how many bytes follow.
 fn begin(f: &[u8], k: usize, reply: &mut [u8])
     requires { (2 ≤ length f.now) × (k < 256) × (256 ≤ length reply.old) }
     ensures { reply.new ≡ sent (take 2 f.now ++ (k ∷ [])) reply.old }
 {
-    let s = f[0];
-    let n = f[1];
-    reply[0] = s;
-    reply[1] = n;
+    reply[0] = f[0];
+    reply[1] = f[1];
     reply[2] = k as u8;
 }
 
@@ -71,30 +53,28 @@ pub fn told(n: usize, f: &[u8], m: &[u8], d: &[i16], reply: &mut [u8]) -> usize
     if n == 3 {
         return registers_told(f, d, reply);
     }
-    repeat(f, reply, 6);
+    reply[..6].copy_from_slice(&f[..6]);
     6
 }
 
 // The exception e, without its CRC.
-pub fn exception_told(f: &[u8], e: usize, reply: &mut [u8]) -> usize
-    requires { (2 ≤ length f.now) × (e < 256) × (256 ≤ length reply.old) }
+pub fn exception_told(f: &[u8], e: u8, reply: &mut [u8]) -> usize
+    requires { (2 ≤ length f.now) × (256 ≤ length reply.old) }
     ensures { (reply.new ≡ sent (exception_to f.now e) reply.old) × (result ≡ 3) }
 {
-    let s = f[0];
-    let n = f[1];
-    reply[0] = s;
-    reply[1] = n % 128 + 128;
-    reply[2] = e as u8;
+    reply[0] = f[0];
+    reply[1] = f[1] % 128 + 128;
+    reply[2] = e;
     3
 }
 
 // The CRC after the n bytes of a reply.
-pub fn close(reply: &mut [u8], n: usize) -> Answered
+pub fn close(reply: &mut [u8], n: usize) -> usize
     requires { n + 2 ≤ length reply.old }
-    ensures { (s b : List ℕ) → n ≡ length s → reply.old ≡ sent s b → (result ≡ Reply (length (with_crc s))) × (reply.new ≡ sent (with_crc s) b) }
+    ensures { (s b : List ℕ) → n ≡ length s → reply.old ≡ sent s b → (result ≡ length (with_crc s)) × (reply.new ≡ sent (with_crc s) b) }
 {
     let c = crc::crc(reply, n);
     reply[n] = (c % 256) as u8;
     reply[n + 1] = (c / 256) as u8;
-    Answered::Reply { length: n + 2 }
+    n + 2
 }

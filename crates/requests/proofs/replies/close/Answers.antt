@@ -1,7 +1,5 @@
-use mathlib.Core.Path.{ap}
 use native.Mathlib.Omega.{arith}
 use lib.ListN.{length-set}
-use Rattle.modbus.specs.Answered.{Reply}
 use Rattle.requests.proofs.Laws.{closed, closed-length}
 use Rattle.requests.proofs.replies.close.Goals as goal
 
@@ -11,4 +9,4 @@ bounds-reply-n-2 c = simp length-set (omega arith)
 pub returns : goal.returns
 returns c =
     λ s b e g.
-    (ap Reply (closed-length s b c.args.reply.now c.args.n c.crc-c.result e g c.crc-c.ensures.0), closed s b c.args.reply.now c.args.n c.crc-c.result e g c.crc-c.ensures.0 c.requires)
+    (closed-length s b c.args.reply.now c.args.n c.crc-c.result e g c.crc-c.ensures.0, closed s b c.args.reply.now c.args.n c.crc-c.result e g c.crc-c.ensures.0 c.requires)

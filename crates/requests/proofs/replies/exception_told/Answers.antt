@@ -13,4 +13,4 @@ bounds-reply-2 c = simp length-set (omega arith)
 
 pub returns : goal.returns
 unfolding exception_to
-returns c = (three-bytes _ _ _ _ c.requires.2, refl)
+returns c = (three-bytes _ _ _ _ c.requires.1, refl)
