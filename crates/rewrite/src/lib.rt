@@ -45,9 +45,7 @@ pub fn move_numbers(f: &mut [u8], first: usize, count: usize, start: usize, n: u
     requires { Held (length f.old) first count × Below start n place }
     ensures { f.new ≡ list (length f.old) (moved_byte (block start n) place f.old first count) }
 {
-    let mut k = 0;
-    while k < count {
+    for k in 0..count {
         move_record(f, first + 20 * k, start, n, place);
-        k += 1;
     }
 }

@@ -1,5 +1,4 @@
 -- The loop's invariant: after k records the file is the moved file of k records.
-use Prim.Native.Nat.{◌≤◌, ◌-◌}
 use lib.ListN.{length}
 use mathlib.Core.Path.{◌≡◌}
 use Rattle.ec20.specs.Move.{block}
@@ -7,7 +6,4 @@ use Rattle.rewrite.proofs.RecordsLaws.{after}
 use Rattle.rewrite.proofs.move_numbers.Given as goal
 
 abbrev pub invariant-loop-k : goal.invariant-loop-k
-invariant-loop-k l = (l.k ≤ l.count) × (l.f ≡ after (block l.start l.n) l.place l.initial.f l.first l.k) × (length l.f ≡ length l.initial.f)
-
-abbrev pub decreases-loop-k : goal.decreases-loop-k
-decreases-loop-k l = l.count - l.k
+invariant-loop-k l = (l.f ≡ after (block l.start l.n) l.place l.initial.f l.first l.k) × (length l.f ≡ length l.initial.f)

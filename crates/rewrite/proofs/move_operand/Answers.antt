@@ -1,4 +1,3 @@
-use native.Mathlib.Omega.{arith}
 use Rattle.rewrite.proofs.OperandLaws.{in_block, moved-below, operand-moved, operand-kept}
 use borrow.Author.Rules.{rules}
 use Rattle.rewrite.proofs.move_operand.Goals as goal
@@ -17,4 +16,4 @@ returns-then-in_d-within c =
 
 pub returns-else-in_d-within : goal.returns-else-in_d-within
 returns-else-in_d-within c =
-    operand-kept _ _ _ _ c.in_d.ensures c.start.ensures.value c.within.ensures _ _ c.operand_at-o.ensures.0 c.if-in_d-within.false (λ k. omega (arith, c.slice_known-1.given k))
+    operand-kept _ _ _ _ c.in_d.ensures c.start.ensures.value c.within.ensures _ _ c.operand_at-o.ensures.0 c.if-in_d-within.false (λ k. search rules)
