@@ -17,10 +17,13 @@ pub fn milliseconds(rt: &impl Clock) -> u64 {
 
 // Waits for about so many milliseconds, for at most 1,000 at a time.
 pub fn pause(rt: &impl Clock, ms: u64) {
-    let least = if ms < 1_000 { ms } else { 1_000 };
-    let seconds = (least / 1_000) as u32;
-    let nanoseconds = (least % 1_000 * 1_000_000) as u32;
-    thread::sleep(rt, Duration::new(u64::from(seconds), nanoseconds));
+    thread::sleep(rt, Duration::from_millis(at_most_a_second(ms)));
+}
+
+fn at_most_a_second(ms: u64) -> u64
+    ensures { result ≤ 1000 }
+{
+    ms.min(1_000)
 }
 
 // The number, where it is at most `most`; else 0.
