@@ -1,4 +1,4 @@
 mod Runs
 mod Rows
 mod Hex
-mod Texts
+mod Nameless

@@ -3,7 +3,10 @@ ghost use Rattle.std.specs.Prelude.{◌≡◌, ℕ, ◌+◌, ◌<◌, ◌≤◌,
 ghost use Rattle.telling.specs.Picture.{sign_of, Row, free_rows};
 
 use crate::spans;
-use calls::texts;
+use crate::spans::Run;
+use calls::output::Descriptor;
+use std::fmt;
+use std::fmt::Write;
 
 // The sign of word i. A word of WORK that is read is told as read.
 fn sign(read: &[u8; 1000], written: &[u8; 1000], i: usize) -> u8
@@ -22,31 +25,20 @@ fn fill(read: &[u8; 1000], written: &[u8; 1000], first: usize, to: &mut [u8; 111
     requires { (first < 8000) × (length to.old ≡ 111) }
     ensures { Row (λ (i : ℕ). sign_of read.now written.now (first + i)) to.old to.new }
 {
-    let mut i: usize = 0;
-    while i < 100 {
+    for i in 0..100 {
         to[i + i / 10 + 1] = sign(read, written, first + i);
-        i += 1;
     }
     to[110] = b'\n';
 }
 
-fn put_row(to: i32, text: &[u8; 111]) -> i32 {
-    texts::put(to, text)
-}
-
-fn row(to: i32, read: &[u8; 1000], written: &[u8; 1000], first: usize) -> i32
+// The first word ahead of its row, in a column of six.
+fn row(mut out: Descriptor, read: &[u8; 1000], written: &[u8; 1000], first: usize) -> fmt::Result
     requires { first < 8000 }
 {
-    let mut label = texts::ROW + 2;
-    if first < 1000 {
-        label = texts::ROW + 1;
-    }
-    if first == 0 {
-        label = texts::ROW;
-    }
     let mut text = [b' '; 111];
     fill(read, written, first, &mut text);
-    put_row(texts::say(to, label, first, 0, 0, 0), &text)
+    write!(out, "D{first:<5}")?;
+    out.put(&text)
 }
 
 // Where the free rows from the row of `first` on end: that row itself where it is not free. WORK is shown.
@@ -65,18 +57,27 @@ fn free_rows(read: &[u8; 1000], written: &[u8; 1000], first: usize) -> usize
 }
 
 // A row for each hundred words, or one line for all rows that are free from there on.
-pub fn show(out: i32, read: &[u8; 1000], written: &[u8; 1000]) -> i32 {
-    let mut to = texts::say(out, texts::SIGNS, 0, 0, 0, 0);
-    let mut i: usize = 0;
-    while i < 8000 {
-        let end = free_rows(read, written, i);
-        if i < end {
-            to = spans::say_run(to, texts::FREE, i, end - i);
-            i = end;
+pub fn show(mut out: Descriptor, read: &[u8; 1000], written: &[u8; 1000]) -> fmt::Result {
+    write!(
+        out,
+        ". free   r read   w written   b read and written   # WORK, free
+      +0         +10        +20        +30        +40        +50        +60        +70        +80        +90
+"
+    )?;
+    let mut first = 0;
+    while first < 8000 {
+        let end = free_rows(read, written, first);
+        if first < end {
+            let run = Run {
+                first,
+                length: end - first,
+            };
+            writeln!(out, "{run} free")?;
+            first = end;
             continue;
         }
-        to = row(to, read, written, i);
-        i += 100;
+        row(out, read, written, first)?;
+        first += 100;
     }
-    to
+    Ok(())
 }

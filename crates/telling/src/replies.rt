@@ -1,8 +1,10 @@
 // The bytes of a reply, each as two hexadecimal digits with a blank ahead.
-ghost use Rattle.std.specs.Prelude.{◌≡◌, ◌+◌, ◌*◌, ◌/◌, ◌%◌, ◌<◌, ◌≤◌, min, length, slice_set};
+ghost use Rattle.std.specs.Prelude.{◌≡◌, ◌+◌, ◌*◌, ◌/◌, ◌%◌, ◌<◌, ◌≤◌, length, slice_set};
 ghost use Rattle.telling.specs.Spelt.{hex_digit, Spelt};
 
-use calls::texts;
+use calls::output::Descriptor;
+use std::fmt;
+use std::fmt::Write;
 
 fn digit(v: u8) -> u8
     requires { v < 16 }
@@ -31,37 +33,17 @@ fn fill(reply: &[u8], n: usize, text: &mut [u8; 768])
     requires { (n ≤ 256) × (n ≤ length reply.now) × (768 ≡ length text.old) }
     ensures { Spelt reply.now n text.old text.new }
 {
-    let mut i: usize = 0;
-    while i < n {
+    for i in 0..n {
         put_byte(text, i, reply[i]);
-        i += 1;
     }
-}
-
-fn put_part(to: i32, text: &[u8], n: usize) -> i32 {
-    if n <= text.len() {
-        return texts::put(to, &text[..n]);
-    }
-    to
-}
-
-fn put_bytes(to: i32, text: &[u8; 768], n: usize) -> i32
-    requires { n ≤ 256 }
-{
-    put_part(to, text, 3 * n)
-}
-
-fn least(a: usize, b: usize) -> usize
-    ensures { result ≡ min a b }
-{
-    if a < b { a } else { b }
 }
 
 // A line for the first n bytes of the reply, as many as it has and of 256 at most.
-pub fn show(out: i32, reply: &[u8], n: usize) -> i32 {
-    let n = least(least(n, 256), reply.len());
+pub fn show(mut out: Descriptor, reply: &[u8], n: usize) -> fmt::Result {
+    let n = n.min(256).min(reply.len());
     let mut text = blanks();
     fill(reply, n, &mut text);
-    let to = texts::say(out, texts::REPLY, 0, 0, 0, 0);
-    texts::say(put_bytes(to, &text, n), texts::LINE, 0, 0, 0, 0)
+    write!(out, "reply")?;
+    out.put(&text[..3 * n])?;
+    writeln!(out)
 }

@@ -2,41 +2,26 @@
 ghost use Rattle.std.specs.Prelude.{◌≡◌, ◌<◌, ◌≤◌};
 ghost use Rattle.telling.specs.Spans.{marks_of, run_end};
 
-use calls::texts;
+use calls::output::Descriptor;
+use std::fmt;
+use std::fmt::Write;
 
-// A text that tells a run: D100-D109, or of one word D100, which is the text after it.
-pub fn say_run(to: i32, told: usize, first: usize, length: usize) -> i32 {
-    if length == 1 {
-        return texts::say(to, std::num::wrapping_add_usize(told, 1), first, 0, 0, 0);
-    }
-    texts::say(to, told, first, last(first, length), 0, 0)
+// D100-D109, or of one word D100.
+#[derive(Clone, Copy)]
+pub struct Run {
+    pub first: usize,
+    pub length: usize,
 }
 
-// The last word of a run.
-fn last(first: usize, length: usize) -> usize {
-    std::num::wrapping_sub_usize(std::num::wrapping_add_usize(first, length), 1)
-}
-
-// The same of two runs of a length.
-pub fn say_both(to: i32, told: usize, start: usize, place: usize, length: usize) -> i32 {
-    if length == 1 {
-        return texts::say(
-            to,
-            std::num::wrapping_add_usize(told, 1),
-            start,
-            place,
-            0,
-            0,
-        );
+impl fmt::Display for Run {
+    fn fmt<W: fmt::Write>(&self, f: &mut fmt::Formatter<W>) -> fmt::Result {
+        let first = self.first;
+        if self.length == 1 {
+            return write!(f, "D{first}");
+        }
+        let last = first.wrapping_add(self.length).wrapping_sub(1);
+        write!(f, "D{first}-D{last}")
     }
-    texts::say(
-        to,
-        told,
-        start,
-        last(start, length),
-        place,
-        last(place, length),
-    )
 }
 
 // 1 for a word that is read, and 2 more for one that is written.
@@ -51,29 +36,36 @@ pub fn run_end(read: &[u8; 1000], written: &[u8; 1000], i: usize, k: usize) -> u
     requires { i < 8000 }
     ensures { (result ≡ run_end read.now written.now i k) × (i < result) × (result ≤ 8000) }
 {
-    let mut end = i + 1;
-    while end < 8000 {
+    for end in i + 1..8000 {
         if marks(read, written, end) != k {
             return end;
         }
-        end += 1;
     }
-    end
+    8000
 }
 
-// The text of a mark: of none it is empty.
-fn marked(k: usize) -> usize {
-    std::num::wrapping_add_usize(texts::MARKED, std::num::wrapping_add_usize(k, k))
+// What the marks of a word that is not free say.
+fn meaning(marks: usize) -> &'static str {
+    match marks {
+        1 => "read",
+        2 => "written",
+        _ => "read written",
+    }
 }
 
-pub fn show(out: i32, read: &[u8; 1000], written: &[u8; 1000]) -> i32 {
-    let mut to = out;
-    let mut i = 0;
-    while i < 8000 {
-        let k = marks(read, written, i);
-        let end = run_end(read, written, i, k);
-        to = say_run(to, marked(k), i, end - i);
-        i = end;
+pub fn show(mut out: Descriptor, read: &[u8; 1000], written: &[u8; 1000]) -> fmt::Result {
+    let mut first = 0;
+    while first < 8000 {
+        let marks = marks(read, written, first);
+        let end = run_end(read, written, first, marks);
+        if marks != 0 {
+            let run = Run {
+                first,
+                length: end - first,
+            };
+            writeln!(out, "{run} {}", meaning(marks))?;
+        }
+        first = end;
     }
-    to
+    Ok(())
 }

@@ -1,22 +1,11 @@
--- The texts by the ranges of numbers. Assumes nothing.
-use Rattle.std.proofs.Common.{arith}
-use Rattle.telling.proofs.Texts.{name-plain, name-16, name-32, no_name}
+use Rattle.std.proofs.Common.{[], ap, sym, ◌∙◌, get_or, rules, arith}
+use native.Mathlib.Nat.{sub-zero}
+use Rattle.telling.proofs.Nameless.{nameless}
+use Rattle.telling.specs.Named.{name_of, names}
 use Rattle.telling.proofs.names.name.Goals as goal
 
-pub returns-then-number-lt24 : goal.returns-then-number-lt24
-returns-then-number-lt24 c = name-plain _ c.if-number-lt24.true
-
-pub returns-then-number-lt32 : goal.returns-then-number-lt32
-returns-then-number-lt32 c = no_name c.args.number (omega arith) (λ h. omega arith) (λ h. omega arith)
-
-pub returns-then-number-lt41 : goal.returns-then-number-lt41
-returns-then-number-lt41 c = name-16 c.args.number (omega arith) (omega arith)
-
-pub returns-then-number-lt48 : goal.returns-then-number-lt48
-returns-then-number-lt48 c = no_name c.args.number (omega arith) (λ h. omega arith) (λ h. omega arith)
-
-pub returns-then-number-lt56 : goal.returns-then-number-lt56
-returns-then-number-lt56 c = name-32 c.args.number (omega arith) (omega arith)
-
-pub returns : goal.returns
-returns c = no_name c.args.number (omega arith) (λ h. omega arith) (λ h. omega arith)
+pub returns-in_default : goal.returns-in_default
+unfolding name_of
+returns-in_default c =
+    let n = c.args.number in
+    sym (ap (λ i. get_or names i []) (sub-zero n)) ∙ nameless names 0 n (omega arith) (search rules)

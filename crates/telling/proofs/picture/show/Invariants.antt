@@ -2,8 +2,8 @@
 use Rattle.std.proofs.Common.{◌-◌, ◌≤◌}
 use Rattle.telling.proofs.picture.show.Given as goal
 
-abbrev pub invariant-loop-i : goal.invariant-loop-i
-invariant-loop-i l = l.i ≤ 8100
+abbrev pub invariant-loop-first : goal.invariant-loop-first
+invariant-loop-first l = l.first ≤ 8100
 
-abbrev pub decreases-loop-i : goal.decreases-loop-i
-decreases-loop-i l = 8000 - l.i
+abbrev pub decreases-loop-first : goal.decreases-loop-first
+decreases-loop-first l = 8000 - l.first

@@ -1,4 +1,5 @@
 -- Signs by the marks. Assumes nothing.
+use Rattle.std.proofs.Common.{rules}
 use Rattle.telling.proofs.Rows.{sign-free, sign-work, sign_read, sign-written, sign-both}
 use Rattle.telling.proofs.picture.sign.Goals as goal
 
@@ -15,4 +16,4 @@ pub returns-in-2 : goal.returns-in-2
 returns-in-2 c = sign-written _ _ _ c.marks.ensures c.in-2.is
 
 pub returns-in_default : goal.returns-in_default
-returns-in_default c = sign-both _ _ _ c.marks.ensures c.in_default.in_default-own.rest.0.0.1 c.in_default.in_default-own.rest.0.1 c.in_default.in_default-own.rest.1
+returns-in_default c = sign-both _ _ _ c.marks.ensures (search rules) (search rules) (search rules)

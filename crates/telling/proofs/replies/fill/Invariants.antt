@@ -1,10 +1,7 @@
--- The bytes so far are spelt. Those that are left fall. Assumes nothing.
-use Rattle.std.proofs.Common.{◌-◌, ◌≤◌}
+-- The bytes so far are spelt. Assumes nothing.
+use Rattle.std.proofs.Common.{◌≤◌}
 use Rattle.telling.specs.Spelt.{Spelt}
 use Rattle.telling.proofs.replies.fill.Given as goal
 
 abbrev pub invariant-loop-i : goal.invariant-loop-i
 invariant-loop-i l = (l.i ≤ l.n) × Spelt l.reply l.i l.initial.text l.text
-
-abbrev pub decreases-loop-i : goal.decreases-loop-i
-decreases-loop-i l = l.n - l.i
