@@ -1,7 +1,7 @@
 -- The exchange by its cases: refused, or done. Assumes nothing.
 use Prim.Native.Nat.{ℕ}
 use mathlib.Core.List.{List}
-use mathlib.Core.Path.{◌≡◌, refl, sym, ap, ◌∙◌}
+use mathlib.Core.Path.{◌≡◌, sym, ◌∙◌}
 use lib.Dec.{eqb}
 use lib.IntN.{ℤ}
 use lib.ListN.{length}
@@ -10,26 +10,17 @@ use Rattle.blocks.specs.Apart.{Apart}
 use Rattle.ec20.proofs.NoFault.{passed, then-fine, block_inside, place_inside}
 use Rattle.ec20.specs.Basics.{then}
 use Rattle.ec20.specs.Devices.{ec20}
-use Rattle.ec20.specs.Exchange.{Exchange, exchanged, size_fault, place_fault, judge_exchange, exchange_for, exchange_of}
+use Rattle.ec20.specs.Exchange.{Exchange, size_fault, place_fault, judge_exchange}
 use Rattle.ec20.specs.Move.{Block, block_fault, block_work}
 use Rattle.ec20.specs.Exchanged.{Exchanged}
-use Rattle.ec20.specs.Exchanged.{Done, Refused}
 use Rattle.ec20.specs.Judged.{Judged}
-use Rattle.ec20.specs.Judged.{Fine, Fault}
+use Rattle.ec20.specs.Judged.{Fine}
 
 -- the answer, and the table
 abbrev pub told : Exchanged → List ℤ → Exchange
 told a d = record { answer = a; words = d }
 
 module _ (d : List ℤ) (b : Block) (q : ℕ) {j : Judged} (e : j ≡ judge_exchange ec20 d b q) where
-  pub refused : {m k : ℕ} → j ≡ Fault m k → told (Refused m k) d ≡ exchange_of d b q
-  unfolding exchange_of exchange_for
-  refused f = rw (sym e ∙ f) refl
-
-  pub done : {x : List ℤ} → j ≡ Fine → x ≡ exchanged b q d → told Done x ≡ exchange_of d b q
-  unfolding exchange_of exchange_for
-  done f g = rw (sym e ∙ f) (ap (told Done) g)
-
   -- not refused: the table has 8,000 words, and block and place are inside D and apart
   pub is-apart : j ≡ Fine → Apart ec20 b q × (length d ≡ 8000)
   unfolding judge_exchange size_fault

@@ -14,7 +14,7 @@ use Rattle.ec20.proofs.Ranges.{within-yes, within-no, within_more}
 use Rattle.ec20.proofs.Exchanges.{exchange-length, exchange-at}
 use Rattle.ec20.specs.Devices.{ec20}
 use Rattle.ec20.specs.Exchange.{swapped, exchanged}
-use Rattle.ec20.specs.Move.{Block, block}
+use Rattle.ec20.specs.Move.{block}
 use Rattle.ec20.specs.Registers.{word_at}
 
 -- where a word goes: from the block, from the place, from elsewhere

@@ -1,11 +1,10 @@
 -- What a reader expects of the exchange. Assumes nothing.
 use Prim.Native.Nat.{ℕ, ◌<◌}
 use mathlib.Core.List.{List}
-use mathlib.Core.Path.{◌≡◌, refl, sym, ap, subst, ◌∙◌}
+use mathlib.Core.Path.{◌≡◌, refl, sym, ap, subst}
 use native.Mathlib.Omega.{arith}
-use lib.IntN.{ℤ, pos}
+use lib.IntN.{ℤ}
 use lib.ListN.{length}
-use lib.Seq.{ext_get_or}
 use Rattle.std.specs.Prelude.{Err}
 use Rattle.blocks.proofs.Swapped.{swap-twice, swap-stays}
 use Rattle.blocks.specs.Apart.{Apart}
@@ -14,11 +13,10 @@ use Rattle.ec20.proofs.Tests.{one_answer}
 use Rattle.ec20.specs.Devices.{ec20}
 use Rattle.ec20.specs.Exchange.{Exchange, swapped, exchanged, size_fault, judge_exchange, exchange_if, exchange_for, exchange_of}
 use Rattle.ec20.specs.Move.{Block}
-use Rattle.ec20.specs.Registers.{word_at}
 use Rattle.ec20.specs.Exchanged.{Exchanged}
 use Rattle.ec20.specs.Exchanged.{Done, Refused}
 use Rattle.ec20.specs.Judged.{Judged}
-use Rattle.ec20.specs.Judged.{Fine, Fault}
+use Rattle.ec20.specs.Judged.{Fine}
 use Rattle.exchange.proofs.Cases.{told, is-apart}
 
 -- two results that meet the contract are equal: answer and table
