@@ -10,7 +10,7 @@ use lib.Signed.{mag}
 use mir.Syntax.{w64}
 use Rattle.ec20.specs.Basics.{pick}
 use Rattle.ec20.specs.File.{operand_at}
-use Rattle.ec20.specs.Memory.{Memory, memory, load_of, store_of, following}
+use Rattle.ec20.specs.Memory.{memory, load_of, store_of, following}
 use Rattle.ec20.specs.Numbers.{bits_in, half}
 use Rattle.ec20.specs.Step.{width_of}
 use Rattle.ec20.specs.Table.{table, row_of}

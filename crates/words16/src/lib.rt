@@ -41,7 +41,7 @@ pub fn act16(
             operands::flags(r, sm);
             0
         }
-        35 => quotients::divided16(rows, n, i, u, f, x, y, m, d, tv),
+        35 => quotients::divided::<16, 32768>(rows, n, i, u, f, x, y, m, d, tv),
         36 => {
             let r = arith::sqt(u);
             if r.error != 0 {

@@ -47,7 +47,7 @@ pub fn act32(
             operands::store(32, records::operand_at(f, i + 14), r.value, y, m, d);
             0
         }
-        52 => quotients::divided32(rows, n, i, u, f, x, y, m, d, tv),
+        52 => quotients::divided::<32, 2147483648>(rows, n, i, u, f, x, y, m, d, tv),
         53 => {
             let r = arith::sqt(u);
             if r.error != 0 {
