@@ -12,6 +12,7 @@ use Rattle.ec20.specs.Operands.{is_known, operands_ok, target_in_work, fault_of,
 use Rattle.ec20.specs.Table.{row_of}
 use Rattle.ec20.specs.Judged.{Judged}
 use Rattle.ec20.specs.Judged.{Fine, Fault}
+use Rattle.ec20.proofs.Parts.{refused-parts}
 use Rattle.torn.specs.Kept.{passes}
 
 -- the judgement of one record: known or not, its operands allowed or not, a target in WORK or not
@@ -26,10 +27,10 @@ fine false b c e = let z : ◌≡◌ {A = ℕ} 0 1 = cc in absurd (omega arith)
 
 -- a fault: it passes both exactly if that is 4
 fault : (a b c : Bool) (n j : ℕ) → one a b c ≡ Fault n j → eqb n 4 ≡ (a && b)
-fault true true true n j e = let z : 4 ≡ n = cc in ap (λ (m : ℕ). eqb m 4) (sym z)
+fault true true true n j e = let z : 4 ≡ n = (refused-parts 4 0 n j e).0 in ap (λ (m : ℕ). eqb m 4) (sym z)
 fault true true false n j e = let z : ◌≡◌ {A = ℕ} 0 1 = cc in absurd (omega arith)
-fault true false c n j e = let z : 3 ≡ n = cc in ap (λ (m : ℕ). eqb m 4) (sym z)
-fault false b c n j e = let z : 2 ≡ n = cc in ap (λ (m : ℕ). eqb m 4) (sym z)
+fault true false c n j e = let z : 3 ≡ n = (refused-parts 3 0 n j e).0 in ap (λ (m : ℕ). eqb m 4) (sym z)
+fault false b c n j e = let z : 2 ≡ n = (refused-parts 2 0 n j e).0 in ap (λ (m : ℕ). eqb m 4) (sym z)
 
 module _ (v : Device) (t : List ℕ) (i : ℕ) where
   -- the first bad one of one record is that record's judgement

@@ -1,6 +1,6 @@
--- The checker's test and what is kept; bytes that are copied; the file that is written
+-- The checker's test and what is kept; the file that is written
 mod Judged
 mod Keeping
-mod Copied
+mod Placed
 mod Written
 mod Answered

@@ -2,7 +2,7 @@
 // checker's own test and the instruction table.
 #![tactic(auto)]
 
-ghost use Rattle.std.specs.Prelude.{◌+◌, ◌*◌, ◌/◌, ◌≤◌, ◌<◌, min, length, take, ◌≡◌};
+ghost use Rattle.std.specs.Prelude.{◌+◌, ◌*◌, ◌≤◌, length, ◌≡◌};
 ghost use Rattle.ec20.specs.Buffer.{over, sent};
 ghost use Rattle.ec20.specs.Devices.{ec20};
 ghost use Rattle.ec20.specs.File.{record_from, records_as};
@@ -11,8 +11,8 @@ ghost use Rattle.instructions.specs.Cells.{cells};
 ghost use Rattle.torn.specs.Kept.{passes as pass, kept_of};
 ghost use Rattle.torn.specs.Salvage.{records_in, size_for, file_with, saved, salvage_of};
 
-use ec20::Judged;
-use torn::{Kept, Salvaged};
+use ec20::Refusal;
+use torn::{Kept, Saved};
 
 // Whether the record at byte i is refused by neither 2 nor 3: the checker's search for the first bad record, of this one alone, tells 4 only where these two
 // do not hold. (The checker's test of one record, called from here too, would no longer be put into that search, and a check took 1.4 times as long.)
@@ -22,8 +22,8 @@ fn passes(rows: &[[u8; 11]; 56], t: &[u8], i: usize) -> bool
     ensures { result ≡ pass ec20 (record_from t.now i) }
 {
     match faults::first_bad_among(rows, t, i, 1) {
-        Judged::Fault(n, _) => n == 4,
-        Judged::Fine => true,
+        Err(r) => r.number == 4,
+        Ok(()) => true,
     }
 }
 
@@ -33,38 +33,26 @@ fn keep(rows: &[[u8; 11]; 56], t: &[u8], n: usize) -> Kept
     requires n_in_bounds { (20 * n ≤ length t.now) × (n ≤ 2001) }
     ensures { (result ≡ kept_of ec20 (records_as 1 t.now 0 n)) × (result.count ≤ n) × (result.added ≤ 1) }
 {
-    let mut k = 0;
-    while k < n {
+    for k in 0..n {
         if !passes(rows, t, 20 * k) {
             return Kept { count: k, added: 1 };
         }
-        let number = t[20 * k];
-        k += 1;
-        if number == 23 {
-            return Kept { count: k, added: 0 };
+        if t[20 * k] == 23 {
+            return Kept {
+                count: k + 1,
+                added: 0,
+            };
         }
     }
-    Kept { count: k, added: 1 }
+    Kept { count: n, added: 1 }
 }
 
-// How many records of a file of n bytes are looked at: all, or 2,001 of more, since more than 2,000 are refused whatever follows.
-fn looked_at(n: usize) -> usize
-    ensures { result ≡ min (n / 20) 2001 }
+// These bytes in the output, from byte `at` on.
+fn put(out: &mut [u8], at: usize, s: &[u8])
+    requires { at + length s.now ≤ length out.old }
+    ensures { out.new ≡ over at s.now out.old }
 {
-    let whole = n / 20;
-    if whole < 2001 { whole } else { 2001 }
-}
-
-// The first n bytes of s in the output, from byte `at` on.
-fn put(out: &mut [u8], at: usize, s: &[u8], n: usize)
-    requires { (n ≤ length s.now) × (at + n ≤ length out.old) }
-    ensures { out.new ≡ over at (take n s.now) out.old }
-{
-    let mut i = 0;
-    while i < n {
-        out[at + i] = s[i];
-        i += 1;
-    }
+    out[at..at + s.len()].copy_from_slice(s);
 }
 
 // The END record.
@@ -79,39 +67,33 @@ fn write(t: &[u8], out: &mut [u8], k: Kept)
     requires { (20 * k.count ≤ length t.now) × (k.added ≤ 1) × (records_in k ≤ 2000) × (size_for (records_in k) ≤ length out.old) }
     ensures { out.new ≡ sent (file_with t.now k) out.old }
 {
-    let count = k.count;
-    let added = k.added;
-    let end = end_record();
-    let trailer = records::trailer(1, count + added);
-    put(out, 0, t, 20 * count);
-    put(out, 20 * count, &end, 20 * added);
-    put(out, 20 * (count + added), &trailer, 8);
+    let records = k.count + k.added;
+    let trailer = records::trailer(1, records);
+    put(out, 0, &t[..20 * k.count]);
+    put(out, 20 * k.count, &end_record()[..20 * k.added]);
+    put(out, 20 * records, &trailer);
 }
 
 // The salvage of a torn file of any length: refused by 1 for more than 2,000 records, an added END included, and by 16 for an output that the file does not
-// fit; else the file stands in the output, which stays as it was past it.
-pub fn salvage(t: &[u8], out: &mut [u8]) -> Salvaged
+// fit; else the file stands in the output, which stays as it was past it. 2,001 records are enough to look at, since more than 2,000 are refused whatever
+// follows.
+pub fn salvage(t: &[u8], out: &mut [u8]) -> Result<Saved, Refusal>
     ensures { saved result out.new ≡ salvage_of t.now out.old }
 {
     let rows = instructions::table();
     let n = t.len();
-    let k = keep(&rows, t, looked_at(n));
-    let kept = k.count;
-    let added = k.added;
-    let records = kept + added;
+    let k = keep(&rows, t, (n / 20).min(2001));
+    let records = k.count + k.added;
     if records > 2000 {
-        return Salvaged::Refused {
-            number: 1,
-            record: 0,
-        };
+        return Err(Refusal { number: 1, at: 0 });
     }
     if out.len() < 20 * records + 8 {
-        return Salvaged::Refused {
-            number: 16,
-            record: 0,
-        };
+        return Err(Refusal { number: 16, at: 0 });
     }
     write(t, out, k);
-    let rest = n - 20 * kept;
-    Salvaged::Done { kept, added, rest }
+    Ok(Saved {
+        kept: k.count,
+        added: k.added,
+        rest: n - 20 * k.count,
+    })
 }
