@@ -10,12 +10,6 @@ use Rattle.step.proofs.exec.Goals as goal
 pub open_loop-requires : goal.open_loop-requires
 open_loop-requires c = record { depth_bound = c.requires.due.depth; pc_bound = omega (arith, c.requires.due.here, c.requires.running.held.most); pc_bound_2 = omega (arith, by.goes_near c.requires.due c.requires.running) }
 
-pub jump-requires : goal.jump-requires
-jump-requires c = omega (arith, c.requires.due.here, c.requires.running.held.most)
-
-pub rest-requires : goal.rest-requires
-rest-requires c = record { due = c.requires.due; left = by.left-of _ _ c.in_default.in_default-own.rest; rows_value = c.requires.running.table }
-
 pub returns-in-0 : goal.returns-in-0
 unfolding row_of table
 returns-in-0 c = nop-arm _ _ _ _ _ (by.nop c.requires.due c.in-0.is refl) c.go_on.ensures
@@ -99,6 +93,3 @@ returns-in-22 c = label-arm _ _ _ _ _ (by.marks c.requires.due c.in-22.is refl) 
 pub returns-in-23 : goal.returns-in-23
 unfolding row_of table
 returns-in-23 c = end-arm _ _ _ _ _ (by.ends c.requires.due c.in-23.is refl) c.stop.ensures
-
-pub returns-in_default : goal.returns-in_default
-returns-in_default c = c.rest.ensures _ _
