@@ -4,17 +4,15 @@
 ghost use Rattle.units.specs.Splits.{split_in};
 ghost use Rattle.std.specs.Prelude.{◌≡◌};
 
-use ec20::{Frame, Judged};
+use ec20::{Frame, Refusal};
 use units::Declaration;
 
 // The first record of a program file that has an operand partly in the declared block; what is no program file has none.
-pub fn split(file: &[u8], a: Declaration) -> Judged
+pub fn split(file: &[u8], a: Declaration) -> Result<(), Refusal>
     ensures { result ≡ split_in file.now a }
 {
-    let start = a.start as usize;
-    let length = a.length as usize;
-    match records::frame(file) {
-        Frame::Whole { first, count } => splits::first_split(file, first, count, start, length),
-        Frame::Broken => Judged::Fine,
-    }
+    let Some(Frame { first, count }) = records::frame(file) else {
+        return Ok(());
+    };
+    splits::first_split(file, first, count, a.start as usize, a.length as usize)
 }
