@@ -6,10 +6,14 @@ use Rattle.ec20.specs.Devices.{ec20}
 use Rattle.ec20.specs.Move.{block_fault}
 use Rattle.ec20.specs.Judged.{Judged}
 use Rattle.ec20.specs.Judged.{Fine, Fault}
-use Rattle.units.specs.Clash.{Declared, clash_of}
+use Rattle.units.specs.Clash.{Declared, none, clash_of}
 use Rattle.units.specs.Report.{pair, block_of, room_fault, Reported, report_if}
 use Rattle.units.specs.declared.Declaration.{Declaration}
 use Rattle.clashes.specs.declared.Rows.{Rows}
+
+-- a list of n declarations, of which these are all, or the first
+abbrev pub counted : ℕ → List Declaration → Declared
+counted n ds = record { count = n; at = λ (i : ℕ). get_or ds i none }
 
 -- whether a judgement finds no fault
 abbrev pub is_fine : Judged → Bool

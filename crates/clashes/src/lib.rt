@@ -1,14 +1,13 @@
 // Which of two declarations clash, and the report of a list. A list is looked at by its pairs once (rows), and the report is made from what was found (told).
-// Over a list that is lent as a slice of declarations the rows are made in the crate unit_lists; here over one by value.
 #![tactic(auto)]
 
 ghost use Rattle.std.specs.Prelude.{ℕ, ◌+◌, ◌-◌, ◌<◌, ◌≤◌, ◌^◌, min, length, get_or, List, ◌++◌, ◌≡◌};
-ghost use Rattle.clashes.specs.Rows.{right_block, grown_by, row_of, no_rows, with_row, rows_of, noted, pairs_in, pairs_from, told_of};
+ghost use Rattle.clashes.specs.Rows.{counted, right_block, grown_by, row_of, no_rows, with_row, rows_of, noted, pairs_in, pairs_from, told_of};
 ghost use Rattle.units.specs.Clash.{none, tabled, same_to, clash_of};
 ghost use Rattle.units.specs.Report.{filled, reported, report_of};
 
-use ec20::Judged;
-use units::{Clashed, Declaration, Table};
+use ec20::Refusal;
+use units::{Declaration, Table};
 
 // The rows of a list: which places clash with which, as numbers; and whether each block is neither empty nor out of range.
 #[derive(Clone, Copy)]
@@ -21,23 +20,14 @@ pub struct Rows {
 pub fn same_name(a: [u8; 8], b: [u8; 8]) -> bool
     ensures { result ≡ same_to 8 a b }
 {
-    (a[0] == b[0])
-        & (a[1] == b[1])
-        & (a[2] == b[2])
-        & (a[3] == b[3])
-        & (a[4] == b[4])
-        & (a[5] == b[5])
-        & (a[6] == b[6])
-        & (a[7] == b[7])
+    a == b
 }
 
 // Whether two declarations clash.
 pub fn clash(a: Declaration, b: Declaration) -> bool
     ensures { result ≡ clash_of a b }
 {
-    let an = a.name;
-    let bn = b.name;
-    if same_name(an, bn) {
+    if same_name(a.name, b.name) {
         return !((a.start == b.start) & (a.length == b.length));
     }
     blocks::meets(
@@ -52,10 +42,7 @@ pub fn clash(a: Declaration, b: Declaration) -> bool
 fn right_block(a: Declaration) -> bool
     ensures { result ≡ right_block a }
 {
-    match blocks::block_fault(a.start as usize, a.length as usize) {
-        Judged::Fine => true,
-        Judged::Fault(_, _) => false,
-    }
+    blocks::block_fault(a.start as usize, a.length as usize).is_ok()
 }
 
 // A row with one place more ahead of it.
@@ -86,56 +73,26 @@ pub fn with_row(r: Rows, i: usize, a: Declaration, row: u64) -> Rows
     s
 }
 
-// n, or 64 where it is more: of a longer list no more is looked at, since it is refused.
-pub fn upto(n: usize) -> usize
-    ensures { (result ≤ n) × (result ≤ 64) × (result ≡ min n 64) }
-{
-    if n < 64 { n } else { 64 }
-}
-
-// Whether the declarations at two places of a table clash.
-fn clash_in(t: Table, i: usize, j: usize) -> bool
-    requires { (i < 64) × (j < 64) }
-    ensures { result ≡ clash_of (get_or t.at i none) (get_or t.at j none) }
-{
-    let x = t.at[i];
-    let y = t.at[j];
-    clash(x, y)
-}
-
 // The row of place i: its clashes with the places after it, up to place n, which is left out.
-fn row_in(t: Table, i: usize, n: usize) -> u64
-    requires { (i < n) × (n ≤ 64) }
-    ensures { (k : ℕ) → result ≡ row_of (tabled t k) i (i + 1) (n - (i + 1)) }
+fn row(list: &[Declaration], i: usize, n: usize) -> u64
+    requires { (i < n) × (n ≤ 64) × (n ≤ length list.now) }
+    ensures { (k : ℕ) → result ≡ row_of (counted k list.now) i (i + 1) (n - (i + 1)) }
 {
     let mut r: u64 = 0;
-    let mut j = n;
-    while i + 1 < j {
-        j -= 1;
-        r = grown(r, clash_in(t, i, j));
+    for j in (i + 1..n).rev() {
+        r = grown(r, clash(list[i], list[j]));
     }
     r
 }
 
-// The row of place i put to the others.
-fn row_added(r: Rows, t: Table, i: usize, n: usize) -> Rows
-    requires { (i < n) × (n ≤ 64) }
-    ensures { (k : ℕ) → result ≡ with_row r i (get_or t.at i none) (row_of (tabled t k) i (i + 1) (n - (i + 1))) }
-{
-    let x = t.at[i];
-    with_row(r, i, x, row_in(t, i, n))
-}
-
 // The rows of the first n places.
-fn rows_in(t: Table, n: usize) -> Rows
-    requires { n ≤ 64 }
-    ensures { (k : ℕ) → result ≡ rows_of (tabled t k) n n }
+fn rows_in(list: &[Declaration], n: usize) -> Rows
+    requires { (n ≤ 64) × (n ≤ length list.now) }
+    ensures { (k : ℕ) → result ≡ rows_of (counted k list.now) n n }
 {
     let mut r = no_rows();
-    let mut i: usize = 0;
-    while i < n {
-        r = row_added(r, t, i, n);
-        i += 1;
+    for i in 0..n {
+        r = with_row(r, i, list[i], row(list, i, n));
     }
     r
 }
@@ -161,14 +118,12 @@ fn tell_row(report: &mut [[u32; 2]], from: usize, row: u64, i: usize, n: usize) 
 {
     let mut r = row;
     let mut at = from;
-    let mut j = i + 1;
-    while j < n {
+    for j in i + 1..n {
         if r == 0 {
             return at;
         }
         at = note(report, at, r % 2 == 1, i, j);
-        r = r / 2;
-        j += 1;
+        r /= 2;
     }
     at
 }
@@ -179,40 +134,36 @@ fn tell_rows(report: &mut [[u32; 2]], of: [u64; 64], n: usize) -> usize
     ensures { (result ≡ length (pairs_from of 0 n)) × (report.new ≡ filled (pairs_from of 0 n) report.old) }
 {
     let mut at: usize = 0;
-    let mut i: usize = 0;
-    while i < n {
+    for i in 0..n {
         at = tell_row(report, at, of[i], i, n);
-        i += 1;
     }
     at
 }
 
 // The report of a list of n declarations, the first 64 of which have these rows.
-pub fn told(r: Rows, n: usize, report: &mut [[u32; 2]]) -> Clashed
+pub fn told(r: Rows, n: usize, report: &mut [[u32; 2]]) -> Result<usize, Refusal>
     ensures { reported result report.new ≡ told_of r n report.old }
 {
-    let right = r.right;
-    if !((n <= 64) & right) {
-        return Clashed::Refused {
-            number: 10,
-            record: 0,
-        };
+    if !((n <= 64) & r.right) {
+        return Err(Refusal { number: 10, at: 0 });
     }
     if report.len() < 2016 {
-        return Clashed::Refused {
-            number: 16,
-            record: 0,
-        };
+        return Err(Refusal { number: 16, at: 0 });
     }
-    let of = r.of;
-    let count = tell_rows(report, of, n);
-    Clashed::Clashes { count }
+    Ok(tell_rows(report, r.of, n))
+}
+
+// The report of a list of n declarations, of which these are all, or the first 64 at least. One of over 64 is refused, so that no more of it is looked at.
+pub fn clashes_of(list: &[Declaration], n: usize, report: &mut [[u32; 2]]) -> Result<usize, Refusal>
+    requires { min n 64 ≤ length list.now }
+    ensures { reported result report.new ≡ report_of (counted n list.now) report.old }
+{
+    told(rows_in(list, n.min(64)), n, report)
 }
 
 // The report of the first n declarations of a table; a list of over 64 has its first 64 there, and is refused.
-pub fn clashes_in(t: Table, n: usize, report: &mut [[u32; 2]]) -> Clashed
+pub fn clashes_in(t: Table, n: usize, report: &mut [[u32; 2]]) -> Result<usize, Refusal>
     ensures { reported result report.new ≡ report_of (tabled t n) report.old }
 {
-    let r = rows_in(t, upto(n));
-    told(r, n, report)
+    clashes_of(&t.at, n, report)
 }

@@ -1,8 +1,7 @@
--- The code is the definition, written out.
-use mathlib.Core.Path.{refl}
-use Rattle.units.specs.Clash.{same_to}
+use mathlib.Core.Path.{◌∙◌}
+use borrow.Author.Rules.{rules}
+use Rattle.clashes.proofs.Names.{names-same}
 use Rattle.clashes.proofs.same_name.Goals as goal
 
 pub returns : goal.returns
-unfolding same_to
-returns c = refl
+returns c = c.eq.ensures ∙ names-same _ _ (search rules) (search rules)

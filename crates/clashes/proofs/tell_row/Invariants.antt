@@ -1,5 +1,5 @@
 -- The loop's invariant: the pairs t are told, and the rest of the row is to come.
-use Prim.Native.Nat.{ℕ, ◌+◌, ◌-◌, ◌<◌, ◌≤◌}
+use Prim.Native.Nat.{ℕ, ◌+◌, ◌-◌, ◌≤◌}
 use mathlib.Core.List.{List}
 use mathlib.Core.Path.{◌≡◌}
 use lib.ListN.{length}
@@ -9,9 +9,6 @@ use Rattle.clashes.proofs.tell_row.Given as goal
 
 abbrev pub invariant-loop-j : goal.invariant-loop-j
 invariant-loop-j l =
-    (l.i < l.j) × (l.j ≤ l.n) × (length l.report ≡ length l.initial.report)
+    (length l.report ≡ length l.initial.report)
     × ((t : List (List ℕ)) × ((length t + (l.i + 1) ≤ l.j) × Telling l.from (pairs_in l.row l.i (l.i + 1) (l.n - (l.i + 1))) l.initial.report l.at l.report
     (pairs_in l.r l.i l.j (l.n - l.j)) t))
-
-abbrev pub decreases-loop-j : goal.decreases-loop-j
-decreases-loop-j l = l.n - l.j

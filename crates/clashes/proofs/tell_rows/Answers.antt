@@ -12,7 +12,6 @@ use Rattle.clashes.proofs.tell_rows.Goals as goal
 pub loop-i-init : goal.loop-i-init
 loop-i-init c =
     let a = c.args in (
-      search rules,
       refl,
       room-at-first a.n (search rules),
       (
@@ -26,25 +25,24 @@ pub tell_row-at-requires : goal.tell_row-at-requires
 tell_row-at-requires c =
     let l = c.loop-i in
     let n : ℕ = c.args.n in
-    (search rules, search rules, room-left l.at l.i n _ (search rules) l.invariant.2 (omega arith))
+    (search rules, search rules, room-left l.at l.i n _ (search rules) l.invariant.1 (omega arith))
 
 pub loop-i-preserved : goal.loop-i-preserved
 loop-i-preserved c =
     let l = c.loop-i in
     let a = c.args in
-    let t = l.invariant.3.0 in
+    let t = l.invariant.2.0 in
     let one : List (List ℕ) = pairs_in (get_or a.of l.i 0) l.i (l.i + 1) (a.n - (l.i + 1)) in (
-      omega arith,
       search rules,
-      still-room l.at l.i a.n _ one (search rules) l.invariant.2 (pairs-most _ _ _ _) c.tell_row-at.ensures.value,
+      still-room l.at l.i a.n _ one (search rules) l.invariant.1 (pairs-most _ _ _ _) c.tell_row-at.ensures.value,
       (
         t ++ one,
-        telling-more _ _ _ _ _ _ t one _ _ _ l.invariant.3.1 (rows_step _ _ _ _ (omega arith)) c.tell_row-at.ensures.value c.tell_row-at.ensures.by_index,
+        telling-more _ _ _ _ _ _ t one _ _ _ l.invariant.2.1 (rows_step _ _ _ _ (omega arith)) c.tell_row-at.ensures.value c.tell_row-at.ensures.by_index,
       ),
     )
 
 pub returns : goal.returns
 returns c =
     let l = c.loop-i in
-    let all = telling-all _ _ _ _ _ _ l.invariant.3.0 l.invariant.3.1 (rows_end _ _ _ (omega arith)) in
+    let all = telling-all _ _ _ _ _ _ l.invariant.2.0 l.invariant.2.1 (rows_end _ _ _ (omega arith)) in
     (all.0 ∙ omega arith, all.1 [] _ refl (sym (filled_none _)))

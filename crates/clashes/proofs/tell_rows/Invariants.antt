@@ -10,8 +10,5 @@ use Rattle.clashes.proofs.tell_rows.Given as goal
 
 abbrev pub invariant-loop-i : goal.invariant-loop-i
 invariant-loop-i l =
-    (l.i ≤ l.n) × (length l.report ≡ length l.initial.report) × (l.at + pairs_of (l.n - l.i) ≤ 2016)
+    (length l.report ≡ length l.initial.report) × (l.at + pairs_of (l.n - l.i) ≤ 2016)
     × ((t : List (List ℕ)) × Telling 0 (pairs_from l.of 0 l.n) l.initial.report l.at l.report (pairs_from l.of l.i (l.n - l.i)) t)
-
-abbrev pub decreases-loop-i : goal.decreases-loop-i
-decreases-loop-i l = l.n - l.i

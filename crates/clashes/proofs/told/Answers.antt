@@ -2,15 +2,15 @@ use borrow.Author.Rules.{rules}
 use Rattle.clashes.proofs.Reports.{too_many, no_room, all_told, at-most-64}
 use Rattle.clashes.proofs.told.Goals as goal
 
-pub returns-then-not-n-right : goal.returns-then-not-n-right
-returns-then-not-n-right c = too_many _ _ _ c.if-not-n-right.true
+pub returns-then-not-n-r : goal.returns-then-not-n-r
+returns-then-not-n-r c = too_many _ _ _ c.if-not-n-r.true
 
 pub returns-then-report-lt2016 : goal.returns-then-report-lt2016
-returns-then-report-lt2016 c = no_room _ _ _ c.if-not-n-right.false (search rules)
+returns-then-report-lt2016 c = no_room _ _ _ c.if-not-n-r.false (search rules)
 
-pub tell_rows-count-requires : goal.tell_rows-count-requires
-tell_rows-count-requires c = (at-most-64 _ _ c.if-not-n-right.false, search rules)
+pub tell_rows-requires : goal.tell_rows-requires
+tell_rows-requires c = (at-most-64 _ _ c.if-not-n-r.false, search rules)
 
 pub returns : goal.returns
 returns c =
-    all_told _ _ _ _ _ c.if-not-n-right.false c.if-report-lt2016.false c.tell_rows-count.ensures.0 c.tell_rows-count.ensures.1
+    all_told _ _ _ _ _ c.if-not-n-r.false c.if-report-lt2016.false c.tell_rows.ensures.0 c.tell_rows.ensures.1
