@@ -1,26 +1,23 @@
 -- The file after an accepted move by the task s: which moves it then accepts. Another task whose block and place the place of s does not meet, if it was
 -- accepted before; and the way back. Assumes nothing.
-use Prim.Native.Nat.{ℕ, zero, suc, ◌+◌, ◌-◌, ◌*◌, ◌≤◌, ◌<◌, ◌^◌}
+use Prim.Native.Nat.{ℕ, ◌+◌, ◌-◌, ◌≤◌, ◌<◌, ◌^◌}
 use mathlib.Core.Bool.{Bool, true, false, not, ◌&&◌, ◌||◌}
 use mathlib.Core.List.{List}
 use mathlib.Core.Logic.{inl, inr}
-use mathlib.Core.Path.{◌≡◌, refl, sym, ap, ap₂, subst, ◌∙◌}
+use mathlib.Core.Path.{◌≡◌, refl, sym, ap, ap₂, ◌∙◌}
 use native.Mathlib.Omega.{arith}
-use lib.Dec.{ltb, leb}
-use lib.ListN.{length}
 use borrow.Author.Tests.{lt-ltb, le-leb}
 use Rattle.blocks.proofs.Swapped.{Clear, clear, not-meets}
 use Rattle.bound.proofs.Accepted.{none-refused}
 use Rattle.bound.proofs.First.{no-first}
-use Rattle.ec20.proofs.NoFault.{block_inside, place-parts}
 use Rattle.ec20.proofs.Ranges.{inside-yes}
 use Rattle.ec20.proofs.Some.{some_at, none-at}
 use Rattle.ec20.proofs.Tests.{differ, is_false}
 use Rattle.ec20.specs.Basics.{pick, first_at, some_from, then}
 use Rattle.ec20.specs.Check.{check_for}
 use Rattle.ec20.specs.Devices.{Device, meets, inside, meets_work}
-use Rattle.ec20.specs.File.{count_of, first_of, records_of}
-use Rattle.ec20.specs.Move.{Block, block, pool, touches, partly, block_fault, pool_fault, block_work, split_fault, is_place, judge_move}
+use Rattle.ec20.specs.File.{count_of, records_of}
+use Rattle.ec20.specs.Move.{Block, block, touches, partly, block_fault, pool_fault, block_work, split_fault, is_place, judge_move}
 use Rattle.ec20.specs.Operands.{in_d, start_of, extent_of}
 use Rattle.ec20.specs.UseMap.{some_operand, record_has, some_record}
 use Rattle.ec20.specs.Found.{Nowhere}
@@ -28,8 +25,6 @@ use Rattle.ec20.specs.Judged.{Judged}
 use Rattle.ec20.specs.Judged.{Fine, Fault}
 use Rattle.ec20.specs.declared.Operand.{Operand}
 use Rattle.ec20.specs.declared.Place.{Place}
-use Rattle.ec20.specs.declared.Rec.{Rec}
-use Rattle.ec20.specs.Verdict.{Accepted}
 use Rattle.demands.specs.Demand3.{OfBytes}
 use Rattle.jobs.proofs.Laws.{all-fail}
 use Rattle.jobs.specs.Tasks.{Task, pool_of, back}
@@ -37,7 +32,7 @@ use Rattle.moved.proofs.Accepted.{record-renamed, moved-answer}
 use Rattle.moved.proofs.Bytes.{frame-whole, same_count}
 use Rattle.moved.proofs.Fit.{Fit, extent-goes}
 use Rattle.moved.proofs.Records.{fit}
-use Rattle.moved.proofs.Taken.{block-fine, block-off-work, placed}
+use Rattle.moved.proofs.Taken.{block-off-work, placed}
 use Rattle.moved.specs.Placed.{Placed}
 use Rattle.moving.proofs.Operand.{in-or-not, rename-other, rename-in, rename-start, rename-extent}
 use Rattle.moving.specs.Rename.{rename_operand, rename_rec}

@@ -9,14 +9,10 @@ use Rattle.demands.specs.Demand3.{OfBytes, with_exchange, scan_exchanged}
 use Rattle.ec20.specs.Check.{check_for}
 use Rattle.ec20.specs.Devices.{Device, ec20}
 use Rattle.ec20.specs.Exchange.{exchanged}
-use Rattle.ec20.specs.Move.{move}
 use Rattle.ec20.specs.Plant.{Plant}
-use Rattle.ec20.specs.Scan.{Scan}
-use Rattle.ec20.specs.Moved.{To}
-use Rattle.jobs.specs.Tasks.{Task, move_by, moved_by, exchanged_by}
+use Rattle.jobs.specs.Tasks.{Task, moved_by, exchanged_by}
 use Rattle.moving.specs.Series.{Input, series}
 use Rattle.orders.specs.Any.{Each, DisjointFrom, AllDisjoint, Fits, Reordered, as_it_is, swapped, behind, then, InTurn, none, next, Exchanged, no_more, one_more, with_exchanges, scan_exchanged_by, AnyOrder}
-use Rattle.orders.specs.Two.{Goes}
 use Rattle.orders.proofs.After.{check-after}
 use Rattle.orders.proofs.Image.{moved-bytes}
 use Rattle.orders.proofs.Two.{disjoint-back, exchange-of, table-size, second, same_bytes, same-table, same_of}

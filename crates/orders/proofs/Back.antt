@@ -8,12 +8,12 @@ use Rattle.demands.specs.Demand3.{OfBytes}
 use Rattle.ec20.specs.Devices.{Device}
 use Rattle.ec20.specs.Exchange.{exchanged}
 use Rattle.jobs.specs.Tasks.{Task, back, moved_by, exchanged_by}
-use Rattle.orders.specs.Any.{Each, DisjointFrom, AllDisjoint, Fits}
-use Rattle.orders.specs.Two.{Goes, Touched, in_block, in_place, Disjoint}
+use Rattle.orders.specs.Any.{DisjointFrom, AllDisjoint, Fits}
+use Rattle.orders.specs.Two.{Goes, Touched, in_block, in_place}
 use Rattle.orders.proofs.After.{goes_back}
 use Rattle.orders.proofs.Any.{first-went, rest-fits, rest-bytes}
 use Rattle.orders.proofs.Two.{disjoint-back, table-size, second, same_bytes, same-table, bytes_back, table-back}
-use Rattle.orders.proofs.Went.{Went, the-answer, file_by, went}
+use Rattle.orders.proofs.Went.{the-answer, file_by, went}
 
 -- ---- the way back touches the same words
 

@@ -1,11 +1,9 @@
 -- The theorems hold of a real file: a comment of two bytes, LD SM0, DMOV D100 to D110, MOV D300 to D302, ADD D302 and D300 to D101, END. The block D100 to
 -- D111 goes to D200, the block D300 to D302 to D400.
 use Prim.Native.Nat.{ℕ, ◌+◌}
-use mathlib.Core.Bool.{Bool, true, false}
+use mathlib.Core.Bool.{false}
 use mathlib.Core.List.{List, [], ◌∷◌}
 use mathlib.Core.Path.{◌≡◌, refl}
-use native.Mathlib.Omega.{arith}
-use lib.IntN.{ℤ, pos}
 use Rattle.demands.specs.Demand3.{OfBytes}
 use Rattle.ec20.proofs.Files.{SM, D, r0, r1, r2, r3, file}
 use Rattle.ec20.specs.Devices.{ec20}
@@ -16,9 +14,9 @@ use Rattle.jobs.specs.Job.{job_answer}
 use Rattle.jobs.specs.Tasks.{Task, task, move_by, tasks_meet, moved_by}
 use Rattle.jobs.specs.Jobbed.{Done}
 use Rattle.moved.proofs.Example.{bytes_below}
-use Rattle.orders.specs.Any.{Fits, AnyOrder}
+use Rattle.orders.specs.Any.{AnyOrder}
 use Rattle.orders.specs.Jobs.{DoneAlike}
-use Rattle.orders.specs.Two.{Goes, Disjoint, EitherOrder, ThereAndBack}
+use Rattle.orders.specs.Two.{Goes, EitherOrder, ThereAndBack}
 use Rattle.orders.proofs.Any.{any_order}
 use Rattle.orders.proofs.Jobs.{unmet-disjoint, done-alike}
 use Rattle.orders.proofs.Two.{two-moves, there_and_back}

@@ -1,9 +1,8 @@
 -- Files with the frame of f: what stands outside the records is f's, and record k is R k. There is one such file. An accepted move makes one of one.
 -- Assumes nothing.
-use Prim.Native.Nat.{ℕ, ◌+◌, ◌-◌, ◌*◌, ◌/◌, ◌%◌, ◌≤◌, ◌<◌, ◌^◌}
-use mathlib.Core.Bool.{true, false}
+use Prim.Native.Nat.{ℕ, ◌+◌, ◌-◌, ◌*◌, ◌%◌, ◌≤◌, ◌<◌, ◌^◌}
 use mathlib.Core.List.{List}
-use mathlib.Core.Path.{◌≡◌, refl, sym, ap, ap₂, subst, ◌∙◌}
+use mathlib.Core.Path.{◌≡◌, refl, sym, ap, subst, ◌∙◌}
 use native.Mathlib.Decide.{dec_lt}
 use native.Mathlib.Omega.{arith}
 use lib.Dec.{ltb}
@@ -12,9 +11,8 @@ use Rattle.ec20.proofs.MovedLaws.{moved_length, moved_at, comment-kept, trailer-
 use Rattle.ec20.proofs.Tests.{picked}
 use Rattle.ec20.specs.declared.Rec.{Rec}
 use Rattle.ec20.specs.Devices.{Device, within}
-use Rattle.ec20.specs.Exchange.{swapped}
-use Rattle.ec20.specs.File.{byte_at, first_of, count_of, framed, record_from, records_of, operand_at}
-use Rattle.ec20.specs.Move.{Block, byte_of, moved_number, moved_in_operand, moved_in_record, moved_byte, moved_file}
+use Rattle.ec20.specs.File.{byte_at, first_of, count_of, record_from, records_of}
+use Rattle.ec20.specs.Move.{Block, moved_in_operand, moved_in_record, moved_byte, moved_file}
 use Rattle.demands.specs.Demand3.{OfBytes}
 use Rattle.jobs.specs.Tasks.{Task}
 use Rattle.moved.proofs.Accepted.{record-renamed}

@@ -6,7 +6,7 @@ use mathlib.Core.Logic.{◌⊎◌, inl, inr}
 use mathlib.Core.Path.{◌≡◌, refl, sym, ap, subst, ◌∙◌}
 use native.Mathlib.Decide.{dec_le, ℕ_discrete}
 use native.Mathlib.Omega.{arith}
-use lib.Dec.{leb, eqb}
+use lib.Dec.{eqb}
 use lib.IntN.{ℤ}
 use lib.ListN.{length}
 use borrow.Author.Tests.{le-leb, lt-leb, eqb-true, eq-eqb}
@@ -19,9 +19,9 @@ use Rattle.ec20.specs.Devices.{Device}
 use Rattle.ec20.specs.Found.{Found}
 use Rattle.ec20.specs.Found.{At, Nowhere}
 use Rattle.ec20.specs.Moved.{Moved}
-use Rattle.ec20.specs.Moved.{To, Refused as NotMoved}
+use Rattle.ec20.specs.Moved.{To}
 use Rattle.ec20.specs.Verdict.{Verdict}
-use Rattle.ec20.specs.Verdict.{Accepted, Refused as Unfit}
+use Rattle.ec20.specs.Verdict.{Accepted}
 use Rattle.jobs.proofs.Laws.{all-accepted, all_apart, all-fail}
 use Rattle.jobs.specs.Job.{refused, task_then, by_tasks, task_at, met_by, meet_then, meetings, right_table, answer_after, job_answer}
 use Rattle.jobs.specs.Tasks.{Task, move_by, tasks_meet}
@@ -199,7 +199,7 @@ module _ (v : Device) (f : List ℕ) (d : List ℤ) (ts : List Task) where
 
   by-verdict : length ts ≤ 64 → (x : Verdict) → check_for v f ≡ x → Holds (job_answer v f d ts)
   by-verdict h (Ok a) c = by-table a.records a.steps h c (right_table v d) refl
-  by-verdict h (Err r) c = let t : Holds (Err r 0 0) = told_1_8 h c in subst Holds (only t) t
+  by-verdict h (Err r) c = let t : Holds (Refused r.number r.at 0 0) = told_1_8 h c in subst Holds (only t) t
 
   pub told : Told v f d ts (job_answer v f d ts)
   told =

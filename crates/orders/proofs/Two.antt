@@ -6,25 +6,23 @@ use mathlib.Core.Path.{◌≡◌, sym, ap, subst, fun_ext, ◌∙◌}
 use native.Mathlib.Omega.{arith}
 use lib.IntN.{ℤ}
 use lib.ListN.{length}
-use Rattle.blocks.proofs.Swapped.{Clear, clear}
+use Rattle.blocks.proofs.Swapped.{clear}
 use Rattle.demands.proofs.Demand3.{moves-on}
 use Rattle.demands.specs.Demand3.{OfBytes, with_exchange, scan_exchanged, Same}
 use Rattle.demands.specs.Lines.{In}
 use Rattle.ec20.proofs.Exchanges.{exchange-length, exchanged-back}
 use Rattle.ec20.specs.Check.{check_for}
 use Rattle.ec20.specs.Devices.{Device, ec20}
-use Rattle.ec20.specs.Exchange.{Exchange, swapped, exchange_by, exchanged}
-use Rattle.ec20.specs.File.{count_of, records_of}
+use Rattle.ec20.specs.Exchange.{Exchange, exchange_by, exchanged}
+use Rattle.ec20.specs.File.{records_of}
 use Rattle.ec20.specs.Move.{move}
-use Rattle.ec20.specs.Plant.{Plant}
-use Rattle.ec20.specs.Scan.{Scan}
 use Rattle.ec20.specs.Exchanged.{Done}
 use Rattle.ec20.specs.Moved.{To}
 use Rattle.jobs.specs.Tasks.{Task, move_by, pool_of, back}
 use Rattle.moved.proofs.Exchanged.{is-swap, exchange-done}
 use Rattle.moved.proofs.Taken.{placed}
 use Rattle.moving.specs.Rename.{Swap, rename_rec}
-use Rattle.moving.specs.Series.{Input, series}
+use Rattle.moving.specs.Series.{series}
 use Rattle.orders.specs.Two.{Goes, in_block, in_place, Disjoint, EitherOrder, ThereAndBack}
 use Rattle.orders.specs.Two as W
 use Rattle.orders.proofs.After.{still-goes, goes_back, check-after}

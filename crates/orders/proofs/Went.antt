@@ -19,7 +19,7 @@ use Rattle.ec20.specs.Judged.{Fine}
 use Rattle.ec20.specs.Moved.{Moved}
 use Rattle.ec20.specs.Moved.{To}
 use Rattle.ec20.specs.Verdict.{Verdict}
-use Rattle.ec20.specs.Verdict.{Accepted, Refused as Unfit}
+use Rattle.ec20.specs.Verdict.{Accepted}
 use Rattle.jobs.proofs.Laws.{named}
 use Rattle.jobs.specs.Tasks.{Task, pool_of, move_by}
 use Rattle.moved.proofs.Taken.{Taken, taken, block-fine}

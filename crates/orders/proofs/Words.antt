@@ -1,6 +1,6 @@
 -- The exchange of block and place of a task, word by word: where a word goes, that the exchanges of disjoint tasks commute, and that the way back is the same
 -- exchange. Assumes nothing.
-use Prim.Native.Nat.{ℕ, ◌+◌, ◌-◌, ◌≤◌, ◌<◌}
+use Prim.Native.Nat.{ℕ, ◌+◌, ◌-◌, ◌<◌}
 use mathlib.Core.Bool.{false}
 use mathlib.Core.Path.{◌≡◌, sym, ap, ◌∙◌}
 use native.Mathlib.Decide.{dec_lt, dec_le}
