@@ -2,15 +2,13 @@
 use Prim.Native.Nat.{ℕ}
 use mathlib.Core.Bool.{Bool, true, false}
 use mathlib.Core.List.{List}
-use mathlib.Core.Path.{◌≡◌, refl, sym, ap, ap₂, subst, ◌∙◌}
+use mathlib.Core.Path.{◌≡◌, refl, sym, ap, ap₂, ◌∙◌}
 use lib.Dec.{eqb}
 use lib.IntN.{ℤ}
-use lib.ListN.{length}
 use Rattle.ec20.specs.Basics.{pick}
 use Rattle.ec20.specs.Memory.{memory, with_m, with_d}
 use Rattle.ec20.specs.Plant.{Plant, plant}
-use Rattle.image.proofs.Inverse.{plant-sizes}
-use Rattle.image.specs.Image.{plant_of, image_of, Sizes}
+use Rattle.image.specs.Image.{plant_of, image_of}
 use Rattle.memories.proofs.After.{tables_after, bytes_after, no_byte}
 use Rattle.memories.specs.Images.{AnswerIn, answer_in}
 use Rattle.modbus.specs.Answer.{Answer, answer_of}
@@ -50,19 +48,11 @@ module _ (own : ℕ) (f : List ℕ) (p : Plant) (b : List ℕ) where
 -- b and b': the bytes before and after it, and p and p' the reply buffer. Tables and leftovers are those of b, the request is answered over them, and
 -- they are joined to b'.
 module _ {b b' : List ℕ} (size own : ℕ) (f p : List ℕ) {p' x y m m' sm t rest : List ℕ} {d d' tv : List ℤ} {r : Answered}
-    (long : length b ≡ 16892)
     (split : plant (memory x y m sm t d tv) rest ≡ plant_of b)
     (back : image_of (plant_of b) ≡ b)
     (answered : told r m' d' p' ≡ pick (eqb size 16892) (answer_of own f m d p) (told (Refused 9 0) m d p))
-    (kept-m : length m' ≡ length m)
-    (kept-d : length d' ≡ length d)
-    (joined : length b ≡ 16892 → b' ≡ image_of (plant (memory x y m' sm t d' tv) rest))
-    (again : length b ≡ 16892 → Sizes (plant (memory x y m' sm t d' tv) rest) → plant_of b' ≡ plant (memory x y m' sm t d' tv) rest) where
-  sizes : Sizes (plant (memory x y m' sm t d' tv) rest)
-  sizes =
-      let s = subst Sizes (sym split) (plant-sizes b long) in
-      record { x = s.x; y = s.y; m = kept-m ∙ s.m; sm = s.sm; t = s.t; d = kept-d ∙ s.d; tv = s.tv; rest = s.rest }
-
+    (joined : b' ≡ image_of (plant (memory x y m' sm t d' tv) rest))
+    (again : plant_of b' ≡ plant (memory x y m' sm t d' tv) rest) where
   all : over (plant (memory x y m sm t d tv) rest) (told r m' d' p') ≡ answer_in size own f (plant_of b) p
   unfolding answer_in
   all =
@@ -77,6 +67,4 @@ module _ {b b' : List ℕ} (size own : ℕ) (f p : List ℕ) {p' x y m m' sm t r
   request-after =
       let answer = ap (λ (e : AnswerIn). e.answer) all in
       let same = ap (λ (e : AnswerIn). e.plant) all in
-      let j = joined long in
-      let a = again long sizes in
-      (answer, (tables_after j a same, (bytes_after j a same, ((λ m k h. no_byte j a same back (refused_keeps own f (plant_of b) p size m k (sym answer ∙ h))), ap (λ (e : AnswerIn). e.reply) all))))
+      (answer, (tables_after joined again same, (bytes_after joined again same, ((λ m k h. no_byte joined again same back (refused_keeps own f (plant_of b) p size m k (sym answer ∙ h))), ap (λ (e : AnswerIn). e.reply) all))))

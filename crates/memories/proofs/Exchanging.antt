@@ -2,10 +2,9 @@
 use Prim.Native.Nat.{ℕ}
 use mathlib.Core.Bool.{Bool, true, false}
 use mathlib.Core.List.{List}
-use mathlib.Core.Path.{◌≡◌, refl, sym, ap, subst, ◌∙◌}
+use mathlib.Core.Path.{◌≡◌, refl, sym, ap, ◌∙◌}
 use lib.Dec.{eqb}
 use lib.IntN.{ℤ}
-use lib.ListN.{length}
 use Rattle.ec20.proofs.Laws.{refused-exchange-keeps}
 use Rattle.ec20.specs.Basics.{pick}
 use Rattle.ec20.specs.Exchange.{Exchange, exchange_of}
@@ -14,8 +13,7 @@ use Rattle.ec20.specs.Move.{Block}
 use Rattle.ec20.specs.Plant.{Plant, plant}
 use Rattle.ec20.specs.Exchanged.{Exchanged}
 use Rattle.ec20.specs.Exchanged.{Refused}
-use Rattle.image.proofs.Inverse.{plant-sizes}
-use Rattle.image.specs.Image.{plant_of, image_of, Sizes}
+use Rattle.image.specs.Image.{plant_of, image_of}
 use Rattle.memories.proofs.After.{tables_after, bytes_after, no_byte}
 use Rattle.memories.specs.Images.{ExchangeIn, exchange_in}
 
@@ -47,18 +45,11 @@ module _ (p : Plant) (b : Block) (q : ℕ) where
 
 -- b and b': the bytes before and after it. Tables and leftovers are those of b, D is exchanged in them, and they are joined to b'.
 module _ {b b' : List ℕ} (size : ℕ) (l : Block) (q : ℕ) {x y m sm t rest : List ℕ} {d d' tv : List ℤ} {r : Exchanged}
-    (long : length b ≡ 16892)
     (split : plant (memory x y m sm t d tv) rest ≡ plant_of b)
     (back : image_of (plant_of b) ≡ b)
     (words : told r d' ≡ pick (eqb size 16892) (exchange_of d l q) (told (Refused 9 0) d))
-    (kept : length d' ≡ length d)
-    (joined : length b ≡ 16892 → b' ≡ image_of (plant (memory x y m sm t d' tv) rest))
-    (again : length b ≡ 16892 → Sizes (plant (memory x y m sm t d' tv) rest) → plant_of b' ≡ plant (memory x y m sm t d' tv) rest) where
-  sizes : Sizes (plant (memory x y m sm t d' tv) rest)
-  sizes =
-      let s = subst Sizes (sym split) (plant-sizes b long) in
-      record { x = s.x; y = s.y; m = s.m; sm = s.sm; t = s.t; d = kept ∙ s.d; tv = s.tv; rest = s.rest }
-
+    (joined : b' ≡ image_of (plant (memory x y m sm t d' tv) rest))
+    (again : plant_of b' ≡ plant (memory x y m sm t d' tv) rest) where
   all : over (plant (memory x y m sm t d tv) rest) (told r d') ≡ exchange_in size l q (plant_of b)
   unfolding exchange_in
   all = in-plant (plant (memory x y m sm t d tv) rest) l q (eqb size 16892) words ∙ ap (exchange_in size l q) split
@@ -70,6 +61,4 @@ module _ {b b' : List ℕ} (size : ℕ) (l : Block) (q : ℕ) {x y m sm t rest :
   exchange-after =
       let answer = ap (λ (e : ExchangeIn). e.answer) all in
       let same = ap (λ (e : ExchangeIn). e.plant) all in
-      let j = joined long in
-      let a = again long sizes in
-      (answer, (tables_after j a same, (bytes_after j a same, λ m k h. no_byte j a same back (refused_keeps (plant_of b) l q size m k (sym answer ∙ h)))))
+      (answer, (tables_after joined again same, (bytes_after joined again same, λ m k h. no_byte joined again same back (refused_keeps (plant_of b) l q size m k (sym answer ∙ h)))))

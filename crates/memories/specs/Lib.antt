@@ -1,2 +1,3 @@
 -- What an exchange and a Modbus request make of a memory file.
 pub mod Images
+pub mod Tables

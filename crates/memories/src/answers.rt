@@ -7,7 +7,7 @@ ghost use Rattle.modbus.specs.Answer.{answer_of};
 ghost use Rattle.modbus.specs.Answered.{Refused};
 
 use crate::tables;
-use modbus::Answered;
+use ec20::Refusal;
 
 // The request over the tables M and D of a memory file of so many bytes: one of another size is refused by 9.
 fn in_tables(
@@ -17,16 +17,13 @@ fn in_tables(
     station: u32,
     frame: &[u8],
     reply: &mut [u8],
-) -> Answered
+) -> Result<Option<usize>, Refusal>
     ensures { record { answer = result; m = m.new; d = d.new; reply = reply.new } ≡ pick (eqb size 16892) (answer_of station frame.now m.old d.old reply.old) (record { answer = Refused 9 0; m = m.old; d = d.old; reply = reply.old }) }
 {
     if size == 16892 {
         return requests::answer(station, frame, m, d, reply);
     }
-    Answered::Refused {
-        number: 9,
-        record: 0,
-    }
+    Err(Refusal { number: 9, at: 0 })
 }
 
 // The frame at the station, over M and D of the image, which is then the memory after it; the leftovers stay. size: how many bytes the memory file has.
@@ -37,25 +34,15 @@ pub fn in_image(
     station: u32,
     frame: &[u8],
     reply: &mut [u8],
-) -> Answered
+) -> Result<Option<usize>, Refusal>
     ensures value { result ≡ (answer_in size station frame.now (plant_of image.old) reply.old).answer }
     ensures image_after { plant_of image.new ≡ (answer_in size station frame.now (plant_of image.old) reply.old).plant }
     ensures image_after_2 { image.new ≡ image_of (answer_in size station frame.now (plant_of image.old) reply.old).plant }
     ensures by_index { (m k : ℕ) → result ≡ Refused m k → image.new ≡ image.old }
     ensures reply_after { reply.new ≡ (answer_in size station frame.now (plant_of image.old) reply.old).reply }
 {
-    let mut x = tables::bits();
-    let mut y = tables::bits();
-    let mut m = tables::m_bits();
-    let mut sm = tables::bits();
-    let mut t = tables::bits();
-    let mut d = tables::d_words();
-    let mut tv = tables::t_values();
-    let mut rest = tables::rest();
-    image::split(
-        image, &mut x, &mut y, &mut m, &mut sm, &mut t, &mut d, &mut tv, &mut rest,
-    );
-    let a = in_tables(&mut m, &mut d, size, station, frame, reply);
-    image::join(&x, &y, &m, &sm, &t, &d, &tv, &rest, image);
-    a
+    let mut tables = tables::split(image);
+    let answer = in_tables(&mut tables.m, &mut tables.d, size, station, frame, reply);
+    tables::join(tables, image);
+    answer
 }
