@@ -6,38 +6,36 @@ ghost use Rattle.memories.specs.Images.{exchange_in};
 ghost use Rattle.ec20.specs.Buffer.{sent};
 ghost use Rattle.turns.specs.Turns.{FirstApart, turned_by, state_after, drawn};
 
+use memories::exchanges;
 use memories::exchanges::Way;
-use memories::{exchanges, tables};
 
-// The first byte at which they differ; 16892 where none does.
-fn first_apart(a: &[u8; 16892], b: &[u8; 16892]) -> usize
+// The first byte at which they differ, if one does.
+fn first_apart(a: &[u8; 16892], b: &[u8; 16892]) -> Option<usize>
     ensures { FirstApart a.now b.now result }
 {
-    let mut i = 0;
-    while i < 16892 {
+    for i in 0..16892 {
         if a[i] != b[i] {
-            return i;
+            return Some(i);
         }
-        i += 1;
     }
-    i
+    None
 }
 
 // The same of memory a, and memory b with block and place exchanged back.
-pub fn apart(a: &[u8; 16892], b: &[u8; 16892], w: Way) -> usize
+pub fn apart(a: &[u8; 16892], b: &[u8; 16892], w: Way) -> Option<usize>
     ensures { FirstApart a.now (image_of (exchange_in 16892 (block w.start w.length) w.place (plant_of b.now)).plant) result }
 {
-    let mut back = tables::image();
-    back.copy_from_slice(b);
-    exchanges::in_image(&mut back, 16892, w);
+    let mut back = *b;
+    let _ = exchanges::in_image(&mut back, 16892, w);
     first_apart(a, &back)
 }
 
 // The state after a draw, whose highest byte is drawn.
+#[tactic(auto, unfolding(crate::specs::Turns::turned_by))]
 fn turned(s: u32) -> u32
     ensures { result ≡ turned_by s }
 {
-    ((s as u64 * 1664525 + 1013904223) % 4294967296) as u32
+    ((u64::from(s) * 1664525 + 1013904223) % 4294967296) as u32
 }
 
 // Both are long enough for the inputs.
@@ -48,13 +46,11 @@ fn draw(a: &mut [u8], b: &mut [u8], state: u32) -> u32
     ensures b_after { b.new ≡ sent (drawn 32 state) b.old }
 {
     let mut s = state;
-    let mut i: usize = 0;
-    while i < 32 {
+    for i in 0..32 {
         s = turned(s);
         let v = (s / 16777216) as u8;
         a[i] = v;
         b[i] = v;
-        i += 1;
     }
     s
 }

@@ -3,14 +3,9 @@ use mathlib.Core.Path.{refl}
 use Rattle.turns.specs.Turns.{answer_of}
 use Rattle.turns.proofs.turn.answer_of.Goals as goal
 
-pub returns-in-Ended : goal.returns-in-Ended
-unfolding answer_of
-returns-in-Ended c = rw c.in-Ended.is refl
+pub returns-in-Ok : goal.returns-in-Ok
+returns-in-Ok c = rw c.in-Ok.is c.of_stop.ensures
 
-pub returns-in-Watchdog : goal.returns-in-Watchdog
+pub returns-in-Err : goal.returns-in-Err
 unfolding answer_of
-returns-in-Watchdog c = rw c.in-Watchdog.is refl
-
-pub returns-in-Refused : goal.returns-in-Refused
-unfolding answer_of
-returns-in-Refused c = rw c.in-Refused.is refl
+returns-in-Err c = rw c.in-Err.is refl
