@@ -2,54 +2,51 @@
 use Prim.Native.Nat.{ℕ, ◌≤◌, ◌<◌}
 use mathlib.Core.Bool.{Bool, true, false, not}
 use mathlib.Core.List.{List}
-use mathlib.Core.Path.{◌≡◌, sym, ap, ap₂, subst, ◌∙◌}
+use mathlib.Core.Path.{◌≡◌, refl, sym, ap, ap₂, subst, ◌∙◌}
 use lib.Dec.{leb}
 use lib.IntN.{ℤ}
 use lib.ListN.{length}
 use borrow.Author.Tests.{le-leb, lt-leb, not-true, not-false}
-use Rattle.checker.proofs.Accepted.{whole-names, whole-records}
-use Rattle.ec20.proofs.NoFault.{accepted-framed, accepted-records}
+use Rattle.std.specs.Prelude.{Result, Err}
+use Rattle.checker.proofs.Accepted.{Taken, not_taken}
+use Rattle.checker.specs.Accepted.{accepted_of}
+use Rattle.ec20.proofs.NoFault.{accepted-framed}
 use Rattle.ec20.specs.Basics.{pick}
 use Rattle.ec20.specs.Check.{check_for, check_of}
 use Rattle.ec20.specs.Devices.{ec20}
-use Rattle.ec20.specs.File.{Records, framed, frame_of}
+use Rattle.ec20.specs.File.{Records, records_from, records_of}
 use Rattle.ec20.specs.Operands.{first_bad}
-use Rattle.ec20.specs.Frame.{Frame}
-use Rattle.ec20.specs.Frame.{Whole}
+use Rattle.ec20.specs.declared.Frame.{Frame as WholeFrame}
+use Rattle.ec20.specs.declared.Refusal.{Refusal}
 use Rattle.ec20.specs.Judged.{Fine}
 use Rattle.ec20.specs.Verdict.{Verdict}
-use Rattle.ec20.specs.Verdict.{Accepted, Refused as Unfit}
 use Rattle.job_moves.specs.Ready.{Fit, Ready, Movable, judged_by}
 use Rattle.jobs.proofs.Laws.{tasks-length}
 use Rattle.jobs.specs.Job.{refused, right_table, answer_after, job_answer, Job, job, job_if, job_for, job_of}
 use Rattle.jobs.specs.Tasks.{Task, moved_by, exchanged_by, tasks_of}
 use Rattle.jobs.specs.Jobbed.{Jobbed}
-use Rattle.jobs.specs.Jobbed.{Refused, Done}
+use Rattle.jobs.specs.Jobbed.{Done}
+use Rattle.jobs.specs.declared.JobRefusal.{JobRefusal}
 use Rattle.moved.proofs.Bytes.{frame-whole}
-use Rattle.records.specs.Ranges.{Fits}
+use Rattle.records.specs.Ranges.{Held}
 
 -- ---- what is known of the file
 
 module _ (f : List ℕ) where
-  pub is-fit : {v : Verdict} {n w : ℕ} → v ≡ check_of f → v ≡ Accepted n w → Fit f
+  own : {w : WholeFrame} → Taken f w → records_from f w.first w.count ≡ records_of f
+  own t = rw (t.first, t.count) refl
+
+  fit_of : {w : WholeFrame} → Taken f w → Fit f
   unfolding check_of
-  is-fit {n = n} {w = w} is ok = record { records = n; steps = w; accepted = sym is ∙ ok }
+  fit_of t = record { records = t.records; steps = t.steps; accepted = t.verdict }
 
-  pub fit-framed : Fit f → framed f ≡ true
-  fit-framed a = accepted-framed ec20 f a.records a.steps a.accepted
-
-  pub is-ready : {x : Frame} {first count : ℕ} → Fit f → x ≡ frame_of f → Fits (length f) x → x ≡ Whole first count → Ready f first count
-  is-ready a g h e =
-      let n = whole-names f g e in
+  pub is-ready : {w : WholeFrame} → Held (length f) w.first w.count → Taken f w → Ready f w.first w.count
+  is-ready h t =
+      let a = fit_of t in
       record {
         fit = a;
-        checked = record {
-          held = subst (Fits (length f)) e h;
-          begin = n.0;
-          many = n.1;
-          fine = subst (λ (rs : Records). first_bad ec20 rs ≡ Fine) (sym (whole-records f g e)) (accepted-records ec20 f a.records a.steps a.accepted);
-        };
-        whole = frame-whole f (fit-framed a);
+        checked = record { held = h; begin = t.first; many = t.count; fine = subst (λ (rs : Records). first_bad ec20 rs ≡ Fine) (sym (own t)) t.fine };
+        whole = frame-whole f (accepted-framed ec20 f a.records a.steps a.accepted);
       }
 
   pub is-movable : {first count : ℕ} → Ready f first count → Movable f first count
@@ -71,12 +68,11 @@ module _ (f : List ℕ) (d : List ℤ) (ls : List (List ℕ)) where
   by a = job_if a f d ts
 
   -- by the lines
-  module _ {x : Jobbed} (e : x ≡ judged_by f ls) where
-    pub lines-refused : {m k i j : ℕ} → x ≡ Refused m k i j → job (Refused m k i j) f d ≡ by (judged_by f ls)
-    lines-refused g = ap by (sym g ∙ e)
+  pub lines-refused : {r : JobRefusal} → ◌≡◌ {A = Jobbed} (Err r) (judged_by f ls) → job (Err r) f d ≡ by (judged_by f ls)
+  lines-refused e = ap by e
 
-    pub lines-done : {n : ℕ} {g : List ℕ} {h : List ℤ} → x ≡ Done n → g ≡ moved_by ts f → h ≡ exchanged_by ts d → job (Done n) g h ≡ by (judged_by f ls)
-    lines-done {n = n} q a b = ap₂ (job (Done n)) a b ∙ ap by (sym q ∙ e)
+  pub lines-done : {n : ℕ} {g : List ℕ} {h : List ℤ} → Done n ≡ judged_by f ls → g ≡ moved_by ts f → h ≡ exchanged_by ts d → job (Done n) g h ≡ by (judged_by f ls)
+  lines-done {n = n} e a b = ap₂ (job (Done n)) a b ∙ ap by e
 
   -- by the table
   abbrev by_table : Bool → Job
@@ -104,11 +100,11 @@ module _ (f : List ℕ) (d : List ℤ) (ls : List (List ℕ)) where
       sym (ap (λ (t : Bool). by (pick t (by_verdict (check_for ec20 f)) (refused 16 0)))
       (ap (λ (n : ℕ). leb n 64) (tasks-length ls) ∙ lt-leb _ _ h))
 
-  module _ (h : length ls ≤ 64) {v : Verdict} (is : v ≡ check_of f) where
-    pub unfit : {m k : ℕ} → v ≡ Unfit m k → job (refused m k) f d ≡ job_of f d ts
+  module _ (h : length ls ≤ 64) where
+    pub unfit : {r : Refusal} → ◌≡◌ {A = Result WholeFrame Refusal} (Err r) (accepted_of f) → job (refused r.number r.at) f d ≡ job_of f d ts
     unfolding check_of
-    unfit e = ap (λ (x : Verdict). by (by_verdict x)) (sym e ∙ is) ∙ few h
+    unfit e = ap (λ (x : Verdict). by (by_verdict x)) (not_taken f e) ∙ few h
 
-    pub fit : {n w : ℕ} {o : Job} → v ≡ Accepted n w → o ≡ by_table (right_table ec20 d) → o ≡ job_of f d ts
+    pub fit : {w : WholeFrame} {o : Job} → Taken f w → o ≡ by_table (right_table ec20 d) → o ≡ job_of f d ts
     unfolding check_of
-    fit e q = q ∙ ap (λ (x : Verdict). by (by_verdict x)) (sym e ∙ is) ∙ few h
+    fit t q = q ∙ ap (λ (x : Verdict). by (by_verdict x)) (sym t.verdict) ∙ few h

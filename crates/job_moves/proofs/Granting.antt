@@ -1,7 +1,7 @@
 -- A job that is done: block and place of each line are in range, and their exchange is granted. Assumes nothing.
 use Prim.Native.Nat.{ℕ, ◌<◌}
 use mathlib.Core.List.{List}
-use mathlib.Core.Path.{◌≡◌, sym, ap, subst, ◌∙◌}
+use mathlib.Core.Path.{◌≡◌, sym, ap, subst}
 use native.Mathlib.Omega.{arith}
 use lib.ListN.{length}
 use Rattle.ec20.specs.Devices.{ec20}
@@ -29,7 +29,7 @@ granted f t e =
       exchanges = λ d h. exchange-done w d h;
     }
 
-pub each-granted : (f : List ℕ) (ls : List (List ℕ)) (then : Jobbed) {x : Jobbed} {n : ℕ} → x ≡ by_tasks ec20 f 0 (tasks_of ls) then → x ≡ Done n → EachGranted ls
-each-granted f ls then {n = n} e g j h =
+pub each-granted : (f : List ℕ) (ls : List (List ℕ)) (then : Jobbed) {n : ℕ} → Done n ≡ by_tasks ec20 f 0 (tasks_of ls) then → EachGranted ls
+each-granted f ls then {n = n} e j h =
     let l : j < length (tasks_of ls) = subst (λ (m : ℕ). j < m) (sym (tasks-length ls)) h in
-    subst Granted (task-at ls j) (granted f (task_at (tasks_of ls) j) (each-named ec20 f 0 (tasks_of ls) then n (sym e ∙ g) j l))
+    subst Granted (task-at ls j) (granted f (task_at (tasks_of ls) j) (each-named ec20 f 0 (tasks_of ls) then n (sym e) j l))

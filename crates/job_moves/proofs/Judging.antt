@@ -11,7 +11,9 @@ use Rattle.ec20.specs.Move.{Block, Pool, judge_move, place_of, move_to, move_if,
 use Rattle.ec20.specs.Found.{Found}
 use Rattle.ec20.specs.Found.{At, Nowhere}
 use Rattle.ec20.specs.Judged.{Judged}
-use Rattle.ec20.specs.Judged.{Fine, Fault}
+use Rattle.ec20.specs.Judged.{Fine}
+use Rattle.ec20.specs.declared.Refusal.{Refusal}
+use Rattle.std.specs.Prelude.{Err}
 use Rattle.ec20.specs.Moved.{Moved}
 use Rattle.ec20.specs.Moved.{To, Refused as NotMoved}
 use Rattle.ec20.specs.Verdict.{Verdict}
@@ -23,11 +25,11 @@ use Rattle.jobs.specs.Jobbed.{Refused}
 
 module _ (f : List ℕ) (b : Block) where
   -- 14, or the place
-  pub place_found : {x p : Found} {q : ℕ} → x ≡ p → x ≡ At q → To q ≡ (move_to p f b).answer
-  place_found e g = sym (ap (λ (y : Found). (move_to y f b).answer) (sym e ∙ g))
+  pub place_found : {p : Found} {q : ℕ} → At q ≡ p → To q ≡ (move_to p f b).answer
+  place_found e = ap (λ (y : Found). (move_to y f b).answer) e
 
-  pub no_place : {x p : Found} → x ≡ p → x ≡ Nowhere → NotMoved 14 0 ≡ (move_to p f b).answer
-  no_place e g = sym (ap (λ (y : Found). (move_to y f b).answer) (sym e ∙ g))
+  pub no_place : {p : Found} → Nowhere ≡ p → NotMoved 14 0 ≡ (move_to p f b).answer
+  no_place e = ap (λ (y : Found). (move_to y f b).answer) e
 
   -- 10 to 14, of records
   module _ (l : Pool) where
@@ -41,14 +43,15 @@ module _ (f : List ℕ) (b : Block) where
         ap₂ (λ (i n : ℕ). by (records_from f i n)) r.checked.begin r.checked.many
         ∙ sym (ap (λ (v : Verdict). (move_after ec20 v f b l).answer) r.fit.accepted)
 
-    module _ {first count : ℕ} (r : Ready f first count) {t : Judged} (e : t ≡ judge_move ec20 (records_from f first count) b l) where
-      pub judged-bad : {m k : ℕ} → t ≡ Fault m k → NotMoved m k ≡ (move_for ec20 f b l).answer
-      judged-bad g =
-          sym (ap (λ (j : Judged). (move_if j (place_of ec20 (records_from f first count) b l) f b).answer) (sym e ∙ g)) ∙ own r
+    module _ {first count : ℕ} (r : Ready f first count) where
+      abbrev judged : Judged → Moved
+      judged j = (move_if j (place_of ec20 (records_from f first count) b l) f b).answer
 
-      pub judged-fine : {x : Moved} → t ≡ Fine → x ≡ (move_to (place_of ec20 (records_from f first count) b l) f b).answer → x ≡ (move_for ec20 f b l).answer
-      judged-fine g q =
-          q ∙ sym (ap (λ (j : Judged). (move_if j (place_of ec20 (records_from f first count) b l) f b).answer) (sym e ∙ g)) ∙ own r
+      pub judged-bad : {d : Refusal} → ◌≡◌ {A = Judged} (Err d) (judge_move ec20 (records_from f first count) b l) → ◌≡◌ {A = Moved} (Err d) (move_for ec20 f b l).answer
+      judged-bad e = ap judged e ∙ own r
+
+      pub judged-fine : {x : Moved} → Fine ≡ judge_move ec20 (records_from f first count) b l → x ≡ (move_to (place_of ec20 (records_from f first count) b l) f b).answer → x ≡ (move_for ec20 f b l).answer
+      judged-fine e q = q ∙ ap judged e ∙ own r
 
 -- ---- line by line
 
@@ -61,12 +64,12 @@ module _ (f : List ℕ) (ls : List (List ℕ)) (then : Jobbed) where
   unfolding by_tasks
   step k h = ap (λ (r : List (List ℕ)). by_tasks ec20 f k (tasks_of r) then) (drop-cons ls k [] h) ∙ rw add-one
 
-  module _ (k : ℕ) {x : Moved} (h : k < length ls) (e : x ≡ (move_by ec20 f (task_of (get_or ls k []))).answer) where
-    pub line_refused : {m r : ℕ} → x ≡ NotMoved m r → Refused m r k k ≡ from k
-    line_refused g = sym (step k h ∙ ap (λ (y : Moved). task_then k y (from (k + 1))) (sym e ∙ g))
+  module _ (k : ℕ) (h : k < length ls) where
+    pub line_refused : {r : Refusal} → ◌≡◌ {A = Moved} (Err r) (move_by ec20 f (task_of (get_or ls k []))).answer → Refused r.number r.at k k ≡ from k
+    line_refused e = ap (λ (y : Moved). task_then k y (from (k + 1))) e ∙ sym (step k h)
 
-    pub line-accepted : {q : ℕ} → x ≡ To q → from k ≡ from (k + 1)
-    line-accepted g = step k h ∙ ap (λ (y : Moved). task_then k y (from (k + 1))) (sym e ∙ g)
+    pub line-accepted : {q : ℕ} → To q ≡ (move_by ec20 f (task_of (get_or ls k []))).answer → from k ≡ from (k + 1)
+    line-accepted e = step k h ∙ ap (λ (y : Moved). task_then k y (from (k + 1))) (sym e)
 
   -- no line is left
   pub lines-over : (k : ℕ) → length ls ≤ k → then ≡ from k

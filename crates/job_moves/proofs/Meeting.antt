@@ -57,12 +57,12 @@ module _ (ls : List (List ℕ)) where
   unfolding meetings
   step i h = let e : length ls - i ≡ suc (length ls - (i + 1)) = omega arith in rw (e, add-one)
 
-  module _ (i : ℕ) {x : Found} (h : i < length ls) (e : x ≡ met_by (tasks_of ls) i) where
-    pub meets_at : {j : ℕ} → x ≡ At j → Refused 14 0 i j ≡ from i
-    meets_at g = sym (step i h ∙ ap (λ (y : Found). meet_then i y (from (i + 1))) (sym e ∙ g))
+  module _ (i : ℕ) (h : i < length ls) where
+    pub meets_at : {j : ℕ} → At j ≡ met_by (tasks_of ls) i → Refused 14 0 i j ≡ from i
+    meets_at e = ap (λ (y : Found). meet_then i y (from (i + 1))) e ∙ sym (step i h)
 
-    pub meets-none : x ≡ Nowhere → from i ≡ from (i + 1)
-    meets-none g = step i h ∙ ap (λ (y : Found). meet_then i y (from (i + 1))) (sym e ∙ g)
+    pub meets-none : Nowhere ≡ met_by (tasks_of ls) i → from i ≡ from (i + 1)
+    meets-none e = step i h ∙ ap (λ (y : Found). meet_then i y (from (i + 1))) (sym e)
 
   -- no line is left
   pub meets-over : (i : ℕ) → length ls ≤ i → Done (length ls) ≡ from i

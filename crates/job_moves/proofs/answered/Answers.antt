@@ -1,8 +1,11 @@
 use native.Mathlib.Omega.{arith}
 use lib.ListN.{get_or}
+use mathlib.Core.Path.{refl}
 use mir.Syntax.{w32}
 use mir.Val.{Fits}
-use Rattle.job_moves.proofs.Judging.{judged-bad, judged-fine}
+use Rattle.std.proofs.lemmas.Result.{err_from_is_err_and}
+use Rattle.job_moves.proofs.Judging.{place_found, no_place, judged-bad, judged-fine}
+use Rattle.jobs.specs.Tasks.{task_of, pool_of}
 use Rattle.mover.proofs.Judging.{is-sized}
 use borrow.Author.Rules.{rules}
 use Rattle.job_moves.proofs.answered.Goals as goal
@@ -21,13 +24,19 @@ judge-requires c =
     let n : Fits w32 (get_or l 1 0) = search rules in
     (c.requires.checked.held, omega arith, omega arith)
 
-pub placed-requires : goal.placed-requires
-placed-requires c = (c.requires.checked, is-sized _ _ _ c.judge.ensures c.in-Fine.is)
+pub returns-in_err-judge : goal.returns-in_err-judge
+returns-in_err-judge c =
+    let p = err_from_is_err_and c.from_residual.result c.from_residual.ensures.1 in
+    rw (p.1, p.2) (judged-bad _ _ _ c.requires c.in_err-judge.ensures)
 
-pub returns-in-Fault : goal.returns-in-Fault
-returns-in-Fault c =
-    judged-bad _ _ _ c.requires c.judge.ensures c.in-Fault.is
+pub place-requires : goal.place-requires
+place-requires c =
+    let t = task_of c.args.l in
+    let w = is-sized _ t.block (pool_of t) c.in_ok-judge.ensures refl in
+    record { held = c.requires.checked.held; size_nonzero = (w.some, w.block, w.pool, w.most); count_value = c.requires.checked.fine }
 
-pub returns-in-Fine : goal.returns-in-Fine
-returns-in-Fine c =
-    judged-fine _ _ _ c.requires c.judge.ensures c.in-Fine.is c.placed.ensures
+pub returns-in_default : goal.returns-in_default
+returns-in_default c = judged-fine _ _ _ c.requires c.in_ok-judge.ensures (no_place _ _ c.in_default.ensures)
+
+pub returns : goal.returns
+returns c = judged-fine _ _ _ c.requires c.in_ok-judge.ensures (place_found _ _ c.in-Some.ensures)

@@ -1,14 +1,11 @@
-use Prim.Native.Nat.{◌-◌}
 use native.Mathlib.Omega.{arith}
-use lib.ListN.{length}
 use Rattle.job_moves.proofs.Moving.{moving-none, moving-more, moving-all}
-use borrow.Author.Rules.{rules}
 use Rattle.job_moves.proofs.move_tasks.Goals as goal
 
 pub loop-k-init : goal.loop-k-init
 loop-k-init c =
     let a = c.args in
-    (moving-none a.first a.count a.lines.now a.file.now c.requires.0, search rules)
+    moving-none a.first a.count a.lines.now a.file.now c.requires.0
 
 -- block and place of line k are numbers of four bytes
 pub overflow_cast-start : goal.overflow_cast-start
@@ -28,15 +25,15 @@ overflow_cast-place c =
 
 pub move_numbers-requires : goal.move_numbers-requires
 move_numbers-requires c =
-    (c.loop-k.invariant.0.movable.held, (c.requires.1 c.loop-k.k (omega arith)).below)
+    (c.loop-k.invariant.movable.held, (c.requires.1 c.loop-k.k (omega arith)).below)
 
 pub loop-k-preserved : goal.loop-k-preserved
 loop-k-preserved c =
     let l = c.loop-k in
-    (moving-more _ _ _ _ l.k _ _ l.invariant.0 (omega arith) c.move_numbers.ensures, search rules)
+    moving-more _ _ _ _ l.k _ _ l.invariant (omega arith) c.move_numbers.ensures
 
 pub shape_of-file : goal.shape_of-file
-shape_of-file c = c.loop-k.invariant.0.size
+shape_of-file c = c.loop-k.invariant.size
 
 pub returns : goal.returns
-returns c = moving-all _ _ _ _ c.loop-k.k _ c.loop-k.invariant.0 (omega arith)
+returns c = moving-all _ _ _ _ c.loop-k.k _ c.loop-k.invariant (omega arith)

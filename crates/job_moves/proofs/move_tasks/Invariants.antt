@@ -1,11 +1,6 @@
 -- The loop's invariant: the lines from number k on, moved in the file, make the file with all of them moved.
-use Prim.Native.Nat.{◌-◌, ◌≤◌}
-use lib.ListN.{length}
 use Rattle.job_moves.proofs.Moving.{Moving}
 use Rattle.job_moves.proofs.move_tasks.Given as goal
 
 abbrev pub invariant-loop-k : goal.invariant-loop-k
-invariant-loop-k l = Moving l.first l.count l.lines l.initial.file l.k l.file × (l.k ≤ length l.lines)
-
-abbrev pub decreases-loop-k : goal.decreases-loop-k
-decreases-loop-k l = length l.lines - l.k
+invariant-loop-k l = Moving l.first l.count l.lines l.initial.file l.k l.file
