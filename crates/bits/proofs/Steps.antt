@@ -1,10 +1,15 @@
 -- What the code computes, as the definitions say it. Assumes nothing.
 use mathlib.Core.Path.{◌≡◌, refl, sym, ap, ap₂, ◌∙◌}
-use mathlib.Core.List.{List}
+use mathlib.Core.List.{List, [], ◌∷◌, ◌++◌}
 use Prim.Native.Nat.{ℕ, zero, suc, ◌+◌, ◌*◌, ◌-◌, ◌/◌, ◌%◌, ◌^◌, ◌<◌, ◌≤◌}
 use native.Mathlib.Nat.{mod-lt, mod-eq_of_lt}
 use native.Mathlib.Omega.{arith}
-use lib.ListN.{length, get_or, set, get_or-eq_default}
+use lib.ListN.{length, get_or, set, take, drop, length-set, get_or-eq_default}
+use mir.Syntax.{w64}
+use borrow.Rule.Slice.PartMut.{put_mid}
+use Rattle.std.specs.Int.{from_le_bytes, to_le_bytes, bytes_low_first}
+use Rattle.std.proofs.Common.{append_assoc}
+use Rattle.std.proofs.lemmas.List.{drop-drop, drop-set-lt, take_more_set, take-append-drop}
 use lib.Pow.{pow_pos, shl_exact}
 use lib.Bits.{bit_and, bit_or, and_high, or_shifted, or_shifted_r}
 use Rattle.ec20.specs.Bits.{packed, byte_with, spread}
@@ -59,6 +64,24 @@ module _ (x j b : ℕ) (hx : x < 256) (hj : j < 8) (hb : b < 2) where
   pub byte-code : x - bit_and x ((1 * 2 ^ j) % 2 ^ 64) + (b * 2 ^ j) % 2 ^ 64 ≡ byte_with x j b
   byte-code = ap₂ (λ (y z : ℕ). x - y + z) bit_in bit-new ∙ bit-changed
 
+-- a row of bytes that is put is put one by one
+abbrev puts : List ℕ → ℕ → ℕ → List ℕ → List ℕ
+puts l at i [] = l
+puts l at i (v ∷ vs) = puts (set l (at + i) v) at (i + 1) vs
+
+one-put : (l : List ℕ) (k v : ℕ) (vs : List ℕ) → k + suc (length vs) ≤ length l → take k l ++ ((v ∷ vs) ++ drop (k + suc (length vs)) l) ≡ take (k + 1) (set l k v) ++ (vs ++ drop (k + 1 + length vs) (set l k v))
+one-put l k v vs h =
+    let t : take (k + 1) (set l k v) ≡ take k l ++ v ∷ [] = take_more_set l k v (omega arith) in
+    let d : drop (k + 1 + length vs) (set l k v) ≡ drop (k + suc (length vs)) l = drop-set-lt (k + 1 + length vs) l k v (omega arith) ∙ ap (λ (n : ℕ). drop n l) (omega arith) in
+    rw (t, d) (sym (append_assoc (take k l) (v ∷ []) (vs ++ drop (k + suc (length vs)) l)))
+
+run-put : (l : List ℕ) (at i k : ℕ) (vs : List ℕ) → k ≡ at + i → k + length vs ≤ length l → take k l ++ (vs ++ drop (k + length vs) l) ≡ puts l at i vs
+run-put l at i k [] e h = ap (λ (n : ℕ). take k l ++ drop n l) {x = k + 0} {y = k} (omega arith) ∙ take-append-drop k l
+run-put l at i k (v ∷ vs) e h =
+    one-put l k v vs h
+    ∙ run-put (set l k v) at (i + 1) (k + 1) vs (omega arith) (simp length-set (omega arith))
+    ∙ ap (λ (j : ℕ). puts (set l j v) at (i + 1) vs) e
+
 -- by whole bytes, from byte `at` on
 module _ (bs : List ℕ) (at : ℕ) (h : (k : ℕ) → get_or bs k 0 < 256) where
   -- one byte more is read
@@ -74,21 +97,22 @@ module _ (bs : List ℕ) (at : ℕ) (h : (k : ℕ) → get_or bs k 0 < 256) wher
   read_first = sym (packed_byte bs at ∙ mod-eq_of_lt (h at))
 
   -- eight are read
-  pub read-eight : bit_or (bit_or (bit_or (bit_or (bit_or (bit_or (bit_or (get_or bs at 0)
-      ((get_or bs (at + 1) 0 * 2 ^ 8) % 2 ^ 64)) ((get_or bs (at + 2) 0 * 2 ^ 16) % 2 ^ 64)) ((get_or bs (at + 3) 0 * 2 ^ 24) % 2 ^ 64)) ((get_or bs (at + 4) 0 * 2 ^ 32) % 2 ^ 64))
-      ((get_or bs (at + 5) 0 * 2 ^ 40) % 2 ^ 64)) ((get_or bs (at + 6) 0 * 2 ^ 48) % 2 ^ 64)) ((get_or bs (at + 7) 0 * 2 ^ 56) % 2 ^ 64) ≡ packed bs (8 * at) 64
+  pub read-eight : from_le_bytes w64 (get_or bs at 0 ∷ get_or bs (at + 1) 0 ∷ get_or bs (at + 2) 0 ∷ get_or bs (at + 3) 0 ∷ get_or bs (at + 4) 0 ∷ get_or bs (at + 5) 0 ∷ get_or bs (at + 6) 0 ∷ get_or bs (at + 7) 0 ∷ []) ≡ packed bs (8 * at) 64
   read-eight =
-      read_more 7 (omega arith) (read_more 6 (omega arith) (read_more 5 (omega arith) (read_more 4 (omega arith) (read_more 3 (omega arith) (read_more 2 (omega arith) (read_more 1 (omega arith) read_first))))))
+      let more = λ (i : ℕ). bytes-more bs at i (h (at + i)) in
+      omega (arith, read_first, more 1, more 2, more 3, more 4, more 5, more 6, more 7)
 
   -- one byte more is put
   pub put_on : (i v : ℕ) {t : List ℕ} → t ≡ spread bs (8 * at) (8 * i) v → set t (at + i) (v / 2 ^ (8 * i) % 256) ≡ spread bs (8 * at) (8 * i + 8) v
   put_on i v e = ap (λ (u : List ℕ). set u (at + i) (v / 2 ^ (8 * i) % 256)) e ∙ sym (put-more bs at i v (h (at + i)))
 
   -- eight are put
-  pub put-eight : (v : ℕ) → set (set (set (set (set (set (set (set bs at (v % 256))
-      (at + 1) (v / 2 ^ 8 % 256)) (at + 2) (v / 2 ^ 16 % 256)) (at + 3) (v / 2 ^ 24 % 256)) (at + 4) (v / 2 ^ 32 % 256))
-      (at + 5) (v / 2 ^ 40 % 256)) (at + 6) (v / 2 ^ 48 % 256)) (at + 7) (v / 2 ^ 56 % 256) ≡ spread bs (8 * at) 64 v
-  put-eight v = put_on 7 v (put_on 6 v (put_on 5 v (put_on 4 v (put_on 3 v (put_on 2 v (put_on 1 v (sym (spread-byte bs at v (h at)))))))))
+  pub put-eight : (v : ℕ) → at + 8 ≤ length bs → put_mid at 8 bs (to_le_bytes w64 v) ≡ spread bs (8 * at) 64 v
+  put-eight v room =
+      ap (λ (r : List ℕ). take at bs ++ (to_le_bytes w64 v ++ r)) (drop-drop 8 at bs)
+      ∙ one-put bs at (v % 256) (bytes_low_first 1 7 v) room
+      ∙ run-put (set bs at (v % 256)) at 1 (at + 1) (bytes_low_first 1 7 v) refl (simp length-set (omega arith))
+      ∙ put_on 7 v (put_on 6 v (put_on 5 v (put_on 4 v (put_on 3 v (put_on 2 v (put_on 1 v (sym (spread-byte bs at v (h at)))))))))
 
 -- a byte past the table's end reads as 0
 pub read_none : (bs : List ℕ) (at i : ℕ) {v : ℕ} → length bs ≤ at + i → v ≡ packed bs (8 * at) (8 * i) → v ≡ packed bs (8 * at) (8 * i + 8)

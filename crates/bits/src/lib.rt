@@ -44,14 +44,16 @@ fn eight(bits: &[u8], at: usize) -> u64
     requires { at + 8 ≤ length bits.now }
     ensures { result ≡ packed bits.now (8 * at) 64 }
 {
-    bits[at] as u64
-        | (bits[at + 1] as u64) << 8
-        | (bits[at + 2] as u64) << 16
-        | (bits[at + 3] as u64) << 24
-        | (bits[at + 4] as u64) << 32
-        | (bits[at + 5] as u64) << 40
-        | (bits[at + 6] as u64) << 48
-        | (bits[at + 7] as u64) << 56
+    u64::from_le_bytes([
+        bits[at],
+        bits[at + 1],
+        bits[at + 2],
+        bits[at + 3],
+        bits[at + 4],
+        bits[at + 5],
+        bits[at + 6],
+        bits[at + 7],
+    ])
 }
 
 // The same at the table's end: a byte that the table does not have is 0.
@@ -94,14 +96,7 @@ fn put_eight(bits: &mut [u8], at: usize, v: u64)
     requires { (at + 8 ≤ length bits.old) × ((k : ℕ) → get_or bits.old k 0 < 256) }
     ensures { bits.new ≡ spread bits.old (8 * at) 64 v }
 {
-    bits[at] = (v % 256) as u8;
-    bits[at + 1] = ((v >> 8) % 256) as u8;
-    bits[at + 2] = ((v >> 16) % 256) as u8;
-    bits[at + 3] = ((v >> 24) % 256) as u8;
-    bits[at + 4] = ((v >> 32) % 256) as u8;
-    bits[at + 5] = ((v >> 40) % 256) as u8;
-    bits[at + 6] = ((v >> 48) % 256) as u8;
-    bits[at + 7] = ((v >> 56) % 256) as u8;
+    bits[at..at + 8].copy_from_slice(&v.to_le_bytes());
 }
 
 // The same at the table's end: a byte that the table does not have is left out.
