@@ -1,24 +1,18 @@
-use mathlib.Core.Path.{◌≡◌, sym, ap₂, subst⁻¹, ◌∙◌}
-use native.Mathlib.Nat.{lt_trans}
-use native.Mathlib.Omega.{arith}
+use mathlib.Core.Path.{◌≡◌, sym, ap₂, ◌∙◌}
 use lib.IntN.{◌-ℤ◌}
 use mir.Syntax.{w64}
-use mir.Val.{SFits, to_z, of_z}
+use mir.Val.{to_z, of_z}
 use Rattle.ec20.specs.Numbers.{signed}
 use Rattle.ints.proofs.Parts.{said}
-use Rattle.ints.proofs.TwosLaws.{signed-small, signed-minus, signed_range}
+use Rattle.ints.proofs.TwosLaws.{signed-small, signed-minus}
 use Rattle.ints.proofs.of_bits.Goals as goal
+use Rattle.ints.proofs.of_bits.Goals.{After-whole-else-u-h-2}
 
 -- what is subtracted, as numbers
-parts : (c : goal.After-whole-else-u-h-2) → to_z w64 (of_z w64 c.whole-else-u-h.result) -ℤ to_z w64 (of_z w64 c.whole-else-u-h-2.result) ≡ signed c.args.h c.args.u
+parts : (c : After-whole-else-u-h-2) → to_z w64 (of_z w64 c.whole-else-u-h.result) -ℤ to_z w64 (of_z w64 c.whole-else-u-h-2.result) ≡ signed c.args.h c.args.u
 parts c =
     ap₂ ◌-ℤ◌ (said w64 c.whole-else-u-h.type_inv c.whole-else-u-h.ensures) (said w64 c.whole-else-u-h-2.type_inv c.whole-else-u-h-2.ensures)
     ∙ signed-minus c.args.h c.args.u c.if-u-h.false c.requires.0
-
-pub minus-requires : goal.minus-requires
-minus-requires c =
-    subst⁻¹ (SFits w64) (parts c)
-    (record { sfits = lt_trans (signed_range c.args.h c.args.u c.requires.0) (omega arith) })
 
 pub returns-then-u-h : goal.returns-then-u-h
 returns-then-u-h c =

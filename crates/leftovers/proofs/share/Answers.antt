@@ -10,21 +10,8 @@ use Rattle.leftovers.proofs.share.Goals as goal
 pub bounds-rest-0 : goal.bounds-rest-0
 bounds-rest-0 c = omega (arith, two _ c.requires.0)
 
--- each byte is below its base, and so is what is left over
-pub overflow_cast-tens : goal.overflow_cast-tens
-overflow_cast-tens c = record { fits = omega (arith, tens-low _ c.requires.0) }
-
-pub overflow_add-tens : goal.overflow_add-tens
-overflow_add-tens c = omega (arith, tens-low _ c.requires.0, c.requires.1)
-
 pub bounds-rest-1 : goal.bounds-rest-1
 bounds-rest-1 c = omega (arith, two _ c.requires.0)
-
-pub overflow_cast-hundreds : goal.overflow_cast-hundreds
-overflow_cast-hundreds c = record { fits = omega (arith, hundreds-low _ c.requires.0) }
-
-pub overflow_add-hundreds : goal.overflow_add-hundreds
-overflow_add-hundreds c = omega (arith, hundreds-low _ c.requires.0, c.requires.1)
 
 pub bounds-rest-0-2 : goal.bounds-rest-0-2
 bounds-rest-0-2 c = omega (arith, two _ c.requires.0)
