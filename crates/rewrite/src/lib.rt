@@ -13,10 +13,7 @@ fn put_u32(f: &mut [u8], i: usize, v: usize)
     requires { (i + 4 ≤ length f.old) × (v < 2 ^ 32) }
     ensures { f.new ≡ with_u32 f.old i v }
 {
-    f[i] = (v % 256) as u8;
-    f[i + 1] = (v / 256 % 256) as u8;
-    f[i + 2] = (v / 65536 % 256) as u8;
-    f[i + 3] = (v / 16777216 % 256) as u8;
+    f[i..i + 4].copy_from_slice(&(v as u32).to_le_bytes());
 }
 
 // The operand at byte i: its number, if its words in D begin in the block, goes along with the block.
