@@ -2,15 +2,14 @@
 use Prim.Native.Nat.{ℕ}
 use mathlib.Core.Bool.{Bool}
 use mathlib.Core.List.{List}
-use mathlib.Core.Path.{◌≡◌, sym, ap, subst, ◌∙◌}
+use mathlib.Core.Path.{◌≡◌, sym, ap, ◌∙◌}
+use native.Mathlib.Omega.{arith}
 use lib.IntN.{ℤ}
-use lib.ListN.{length}
 use Rattle.std.specs.Prelude.{Err}
 use Rattle.ec20.specs.Devices.{ec20}
 use Rattle.ec20.specs.Memory.{memory}
 use Rattle.ec20.specs.Plant.{Plant, plant}
-use Rattle.image.proofs.Inverse.{plant-sizes}
-use Rattle.image.specs.Image.{plant_of, image_of, Sizes}
+use Rattle.image.specs.Image.{plant_of, image_of}
 use Rattle.jobs.specs.Job.{Job, job, job_if, job_answer, job_for, job_of}
 use Rattle.jobs.specs.Tasks.{Task}
 use Rattle.jobs.specs.Jobbed.{Jobbed}
@@ -22,7 +21,7 @@ use Rattle.memory_jobs.specs.Images.{JobOver, over_plant, job_over, no_table}
 by_answer : (a : Jobbed) (f : List ℕ) (d : List ℤ) (ts : List Task) (m k i j : ℕ) → (job_if a f d ts).answer ≡ Refused m k i j
     → job_if a f d ts ≡ job (Refused m k i j) f d
 by_answer (Err r) f d ts m k i j h = ap (λ (a : Jobbed). job a f d) h
-by_answer (Done n) f d ts m k i j h = cc
+by_answer (Done n) f d ts m k i j h = let z : ◌≡◌ {A = ℕ} 0 1 = cc in absurd (omega arith)
 
 refused-job : (f : List ℕ) (d : List ℤ) (ts : List Task) (m k i j : ℕ) → (job_of f d ts).answer ≡ Refused m k i j → job_of f d ts ≡ job (Refused m k i j) f d
 unfolding job_of job_for
@@ -43,18 +42,11 @@ without f f' d' ts {right} {b} e h =
 -- b and b': the bytes of the memory before and after it, f and f' those of the program. Tables and leftovers are those of b, D is exchanged in them, and
 -- they are joined to b'.
 module _ {b b' f' : List ℕ} (f : List ℕ) (ts : List Task) {x y m sm t rest : List ℕ} {d d' tv : List ℤ} {r : Jobbed}
-    (long : length b ≡ 16892)
     (split : plant (memory x y m sm t d tv) rest ≡ plant_of b)
     (back : image_of (plant_of b) ≡ b)
     (words : job r f' d' ≡ job_of f d ts)
-    (kept : length d' ≡ length d)
-    (joined : length b ≡ 16892 → b' ≡ image_of (plant (memory x y m sm t d' tv) rest))
-    (again : length b ≡ 16892 → Sizes (plant (memory x y m sm t d' tv) rest) → plant_of b' ≡ plant (memory x y m sm t d' tv) rest) where
-  sizes : Sizes (plant (memory x y m sm t d' tv) rest)
-  sizes =
-      let s = subst Sizes (sym split) (plant-sizes b long) in
-      record { x = s.x; y = s.y; m = s.m; sm = s.sm; t = s.t; d = kept ∙ s.d; tv = s.tv; rest = s.rest }
-
+    (joined : b' ≡ image_of (plant (memory x y m sm t d' tv) rest))
+    (again : plant_of b' ≡ plant (memory x y m sm t d' tv) rest) where
   all : over_plant (plant (memory x y m sm t d tv) rest) (job r f' d') ≡ job_over f (plant_of b) ts
   unfolding job_over
   all = ap (over_plant (plant (memory x y m sm t d tv) rest)) words ∙ ap (λ (p : Plant). job_over f p ts) split
@@ -67,19 +59,17 @@ module _ {b b' f' : List ℕ} (f : List ℕ) (ts : List Task) {x y m sm t rest :
   job-after =
       let answer = ap (λ (e : JobOver). e.answer) all in
       let file = ap (λ (e : JobOver). e.file) all in
-      let same = ap (λ (e : JobOver). e.plant) all in
-      let bytes = joined long in
-      let a = again long sizes in (
+      let same = ap (λ (e : JobOver). e.plant) all in (
         answer,
         (
           file,
           (
-            tables_after bytes a same,
+            tables_after joined again same,
             (
-              bytes_after bytes a same,
+              bytes_after joined again same,
               λ m k i j h.
                   let keeps = refused_keeps f (plant_of b) ts m k i j (sym answer ∙ h) in
-                  (file ∙ ap (λ (e : JobOver). e.file) keeps, no_byte bytes a same back (ap (λ (e : JobOver). e.plant) keeps)),
+                  (file ∙ ap (λ (e : JobOver). e.file) keeps, no_byte joined again same back (ap (λ (e : JobOver). e.plant) keeps)),
             ),
           ),
         ),

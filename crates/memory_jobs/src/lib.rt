@@ -9,35 +9,29 @@ ghost use Rattle.jobs.specs.Tasks.{tasks_of};
 ghost use Rattle.jobs.specs.Jobbed.{Refused};
 ghost use Rattle.memory_jobs.specs.Images.{job_over, no_table};
 
-use jobs::Jobbed;
+use jobs::JobRefusal;
 use memories::tables;
 
 // The job over the file and the memory of the image, which are then those after it; the leftovers stay. A refused one changes no byte.
-pub fn in_image(file: &mut [u8], image: &mut [u8; 16892], lines: &[[u32; 3]]) -> Jobbed
+pub fn in_image(
+    file: &mut [u8],
+    image: &mut [u8; 16892],
+    lines: &[[u32; 3]],
+) -> Result<usize, JobRefusal>
     ensures value { result ≡ (job_over file.old (plant_of image.old) (tasks_of lines.now)).answer }
     ensures file_after { file.new ≡ (job_over file.old (plant_of image.old) (tasks_of lines.now)).file }
     ensures image_after { plant_of image.new ≡ (job_over file.old (plant_of image.old) (tasks_of lines.now)).plant }
     ensures image_after_2 { image.new ≡ image_of (job_over file.old (plant_of image.old) (tasks_of lines.now)).plant }
     ensures file_unchanged { (m k i j : ℕ) → result ≡ Refused m k i j → (file.new ≡ file.old) × (image.new ≡ image.old) }
 {
-    let mut x = tables::bits();
-    let mut y = tables::bits();
-    let mut m = tables::m_bits();
-    let mut sm = tables::bits();
-    let mut t = tables::bits();
-    let mut d = tables::d_words();
-    let mut tv = tables::t_values();
-    let mut rest = tables::rest();
-    image::split(
-        image, &mut x, &mut y, &mut m, &mut sm, &mut t, &mut d, &mut tv, &mut rest,
-    );
-    let j = job_moves::job(file, &mut d, lines);
-    image::join(&x, &y, &m, &sm, &t, &d, &tv, &rest, image);
-    j
+    let mut tables = tables::split(image);
+    let moves = job_moves::job(file, &mut tables.d, lines);
+    tables::join(tables, image);
+    moves
 }
 
 // The job over the file alone. right: no memory file was given; else one of another size was, which is refused by 9.
-pub fn alone(file: &mut [u8], right: bool, lines: &[[u32; 3]]) -> Jobbed
+pub fn alone(file: &mut [u8], right: bool, lines: &[[u32; 3]]) -> Result<usize, JobRefusal>
     ensures value { result ≡ (job_of file.old (no_table right) (tasks_of lines.now)).answer }
     ensures file_after { file.new ≡ (job_of file.old (no_table right) (tasks_of lines.now)).file }
 {
