@@ -23,7 +23,7 @@ use Rattle.ec20.specs.Check.{check_for}
 use Rattle.ec20.specs.Code.{instr_by, instr_of, code_of, program_of}
 use Rattle.ec20.specs.Devices.{Device, kind_constant, kind_x, kind_y, kind_m, kind_sm, kind_t, kind_d, limit_of}
 use Rattle.ec20.specs.File.{count_of}
-use Rattle.ec20.specs.Forms.{form_contact, form_join, form_branch, form_coil, form_compare, form_timer, form_for, form_next, form_jump, form_label, form_end, form_three, form_two, form_one}
+use Rattle.ec20.specs.Forms.{form_is, form_contact, form_join, form_branch, form_coil, form_compare, form_timer, form_for, form_next, form_jump, form_label, form_end, form_three, form_two, form_one}
 use Rattle.ec20.specs.Memory.{Memory, bits_of}
 use Rattle.ec20.specs.Mnemonics.{DIV, DDIV}
 use Rattle.ec20.specs.Numbers.{half}
@@ -55,38 +55,38 @@ writes n w p =
 -- a rule for the rows of one form
 module _ (form : ℕ) (test : ℕ → Row → Bool) where
   abbrev rule : ℕ → Row → Bool
-  rule n w = not (eqb w.form form) || test n w
+  rule n w = not (form_is w.form form) || test n w
 
-  of-form : ((n : ℕ) → rule n unknown ≡ true) → every rule 0 table ≡ true → (n : ℕ) → eqb (row_of n).form form ≡ true → test n (row_of n) ≡ true
-  of-form u e n q = implied (eqb (row_of n).form form) (test n (row_of n)) (row-test rule u e n) q
+  of-form : ((n : ℕ) → rule n unknown ≡ true) → every rule 0 table ≡ true → (n : ℕ) → form_is (row_of n).form form ≡ true → test n (row_of n) ≡ true
+  of-form u e n q = implied (form_is (row_of n).form form) (test n (row_of n)) (row-test rule u e n) q
 
-contact-row : (n : ℕ) → eqb (row_of n).form form_contact ≡ true → role_is role_bit_read (row_of n).first ≡ true
+contact-row : (n : ℕ) → form_is (row_of n).form form_contact ≡ true → role_is role_bit_read (row_of n).first ≡ true
 unfolding table
 contact-row = of-form form_contact (λ n w. role_is role_bit_read w.first) (λ n. refl) refl
 
-coil-row : (n : ℕ) → eqb (row_of n).form form_coil ≡ true → role_is role_bit_written (row_of n).first ≡ true
+coil-row : (n : ℕ) → form_is (row_of n).form form_coil ≡ true → role_is role_bit_written (row_of n).first ≡ true
 unfolding table
 coil-row = of-form form_coil (λ n w. role_is role_bit_written w.first) (λ n. refl) refl
 
-timer-row : (n : ℕ) → eqb (row_of n).form form_timer ≡ true → role_is role_timer (row_of n).first ≡ true
+timer-row : (n : ℕ) → form_is (row_of n).form form_timer ≡ true → role_is role_timer (row_of n).first ≡ true
 unfolding table
 timer-row = of-form form_timer (λ n w. role_is role_timer w.first) (λ n. refl) refl
 
-compare-row : (n : ℕ) → eqb (row_of n).form form_compare ≡ true
+compare-row : (n : ℕ) → form_is (row_of n).form form_compare ≡ true
     → (reads (row_of n) (row_of n).first && reads (row_of n) (row_of n).second && eqb (width_of n) 16) ≡ true
 unfolding table
 compare-row = of-form form_compare (λ n w. reads w w.first && reads w w.second && eqb w.first.width 16) (λ n. refl) refl
 
-three-row : (n : ℕ) → eqb (row_of n).form form_three ≡ true
+three-row : (n : ℕ) → form_is (row_of n).form form_three ≡ true
     → (reads (row_of n) (row_of n).first && reads (row_of n) (row_of n).second && writes n (row_of n) (row_of n).third) ≡ true
 unfolding table
 three-row = of-form form_three (λ n w. reads w w.first && reads w w.second && writes n w w.third) (λ n. refl) refl
 
-two-row : (n : ℕ) → eqb (row_of n).form form_two ≡ true → (reads (row_of n) (row_of n).first && writes n (row_of n) (row_of n).second) ≡ true
+two-row : (n : ℕ) → form_is (row_of n).form form_two ≡ true → (reads (row_of n) (row_of n).first && writes n (row_of n) (row_of n).second) ≡ true
 unfolding table
 two-row = of-form form_two (λ n w. reads w w.first && writes n w w.second) (λ n. refl) refl
 
-one-row : (n : ℕ) → eqb (row_of n).form form_one ≡ true → writes n (row_of n) (row_of n).first ≡ true
+one-row : (n : ℕ) → form_is (row_of n).form form_one ≡ true → writes n (row_of n) (row_of n).first ≡ true
 unfolding table
 one-row = of-form form_one (λ n w. writes n w w.first) (λ n. refl) refl
 
@@ -313,27 +313,27 @@ module _ (v : Device) (full : Filled v) (c : Memory) (s : Sizes v c) where
       let o1 = all-allowed v r ok first in
       let o2 = all-allowed v r ok second in
       let o3 = all-allowed v r ok third in
-      picked (Named c) (eqb f form_contact) _ _
+      picked (Named c) (form_is f form_contact) _ _
       (λ q. bit-read r.first (at_bit_read v w.first r.first (eqb-true _ _ (contact-row n q)) o1))
-      (λ _. picked (Named c) (eqb f form_join) _ _ (λ _. tt)
-      (λ _. picked (Named c) (eqb f form_branch) _ _ (λ _. tt)
-      (λ _. picked (Named c) (eqb f form_coil) _ _
+      (λ _. picked (Named c) (form_is f form_join) _ _ (λ _. tt)
+      (λ _. picked (Named c) (form_is f form_branch) _ _ (λ _. tt)
+      (λ _. picked (Named c) (form_is f form_coil) _ _
       (λ q. bit-written r.first (at_bit_written v w.first r.first (eqb-true _ _ (coil-row n q)) o1))
-      (λ _. picked (Named c) (eqb f form_compare) _ _
+      (λ _. picked (Named c) (form_is f form_compare) _ _
       (λ q.
       let t = each (reads w w.first) (reads w w.second) (eqb w.first.width 16) (compare-row n q) in
       let z : w.first.width ≡ 16 = eqb-true _ _ t.2 in (
         subst (λ (k : ℕ). Source k c r.first) z (reads-source r.first w w.first t.0 o1),
         subst (λ (k : ℕ). Source k c r.second) z (reads-source r.second w w.second t.1 o2),
       ))
-      (λ _. picked (Named c) (eqb f form_timer) _ _
+      (λ _. picked (Named c) (form_is f form_timer) _ _
       (λ q. timer r.first (at_timer v w.first r.first (eqb-true _ _ (timer-row n q)) o1))
-      (λ _. picked (Named c) (eqb f form_for) _ _ (λ _. tt)
-      (λ _. picked (Named c) (eqb f form_next) _ _ (λ _. tt)
-      (λ _. picked (Named c) (eqb f form_jump) _ _ (λ _. tt)
-      (λ _. picked (Named c) (eqb f form_label) _ _ (λ _. tt)
-      (λ _. picked (Named c) (eqb f form_end) _ _ (λ _. tt)
-      (λ _. picked (Named c) (eqb f form_three) _ _
+      (λ _. picked (Named c) (form_is f form_for) _ _ (λ _. tt)
+      (λ _. picked (Named c) (form_is f form_next) _ _ (λ _. tt)
+      (λ _. picked (Named c) (form_is f form_jump) _ _ (λ _. tt)
+      (λ _. picked (Named c) (form_is f form_label) _ _ (λ _. tt)
+      (λ _. picked (Named c) (form_is f form_end) _ _ (λ _. tt)
+      (λ _. picked (Named c) (form_is f form_three) _ _
       (λ q.
       let t = each (reads w w.first) (reads w w.second) (writes n w w.third) (three-row n q) in
       record {
@@ -343,7 +343,7 @@ module _ (v : Device) (full : Filled v) (c : Memory) (s : Sizes v c) where
         target = writes-target r.third n w.third t.2 o3;
         flags = has-flags;
       })
-      (λ q3. picked (Named c) (eqb f form_two) _ _
+      (λ q3. picked (Named c) (form_is f form_two) _ _
       (λ q.
       let t = both (reads w w.first) (writes n w w.second) (two-row n q) in
       record {
@@ -353,7 +353,7 @@ module _ (v : Device) (full : Filled v) (c : Memory) (s : Sizes v c) where
         target = writes-target r.second n w.second t.1 o2;
         flags = has-flags;
       })
-      (λ _. picked (Named c) (eqb f form_one) _ _
+      (λ _. picked (Named c) (form_is f form_one) _ _
       (λ q.
       let t = writes-target r.first n w.first (one-row n q) o1 in
       record {

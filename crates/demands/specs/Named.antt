@@ -6,7 +6,7 @@ use Rattle.ec20.specs.declared.Instr.TheVariants.{Nop, Contact, Compare, Join, B
 use Rattle.ec20.specs.declared.Operand.{Operand}
 use Rattle.ec20.specs.Code.{no_operand}
 use Rattle.ec20.specs.Devices.{Device, kind_constant, kind_x, kind_y, kind_m, kind_t, kind_d}
-use Rattle.ec20.specs.Forms.{form_three}
+use Rattle.ec20.specs.Forms.{form_is, form_three}
 use Rattle.ec20.specs.Memory.{Memory, bits_of}
 use Rattle.ec20.specs.Mnemonics.{DIV, DDIV}
 use Rattle.ec20.specs.Step.{width_of}
@@ -61,7 +61,7 @@ pub data Target (n : ℕ) (c : Memory) (o : Operand) : Type 0 where
 
 -- the table has two sources for n
 abbrev pub two_sources : ℕ → Bool
-two_sources n = eqb (row_of n).form form_three
+two_sources n = form_is (row_of n).form form_three
 
 -- the word instruction n, of the sources a and b and the target t. Where the table has one source, b is none and reads nothing: "Unused operands are
 -- six zeros." The flags are SM180 to SM182.

@@ -1,48 +1,75 @@
--- The forms: which instruction (specs/Code.antt) a record makes, by numbers of our own, which the table's rows have. The last three are word
--- instructions: of two sources and a target, of a source and a target, of a target that is also read.
-use Rattle.std.specs.Prelude.{ℕ}
+-- The forms: which instruction (specs/Code.antt) a record makes. The last three are word instructions: of two sources and a target, of a source and
+-- a target, of a target that is also read.
+use Rattle.std.specs.Prelude.{ℕ, Bool, eqb, leb}
+use Rattle.ec20.specs.declared.Form.{Form}
+use Rattle.ec20.specs.declared.Form.TheVariants.{Nop, Contact, Join, Branch, Coil, Compare, Timer, For, Next, Jump, Label, End, Three, Two, One}
 
-abbrev pub form_nop : ℕ
-form_nop = 0
+pattern abbrev pub form_nop : Form
+form_nop = Nop
 
-abbrev pub form_contact : ℕ
-form_contact = 1
+pattern abbrev pub form_contact : Form
+form_contact = Contact
 
-abbrev pub form_join : ℕ
-form_join = 2
+pattern abbrev pub form_join : Form
+form_join = Join
 
-abbrev pub form_branch : ℕ
-form_branch = 3
+pattern abbrev pub form_branch : Form
+form_branch = Branch
 
-abbrev pub form_coil : ℕ
-form_coil = 4
+pattern abbrev pub form_coil : Form
+form_coil = Coil
 
-abbrev pub form_compare : ℕ
-form_compare = 5
+pattern abbrev pub form_compare : Form
+form_compare = Compare
 
-abbrev pub form_timer : ℕ
-form_timer = 6
+pattern abbrev pub form_timer : Form
+form_timer = Timer
 
-abbrev pub form_for : ℕ
-form_for = 7
+pattern abbrev pub form_for : Form
+form_for = For
 
-abbrev pub form_next : ℕ
-form_next = 8
+pattern abbrev pub form_next : Form
+form_next = Next
 
-abbrev pub form_jump : ℕ
-form_jump = 9
+pattern abbrev pub form_jump : Form
+form_jump = Jump
 
-abbrev pub form_label : ℕ
-form_label = 10
+pattern abbrev pub form_label : Form
+form_label = Label
 
-abbrev pub form_end : ℕ
-form_end = 11
+pattern abbrev pub form_end : Form
+form_end = End
 
-abbrev pub form_three : ℕ
-form_three = 12
+pattern abbrev pub form_three : Form
+form_three = Three
 
-abbrev pub form_two : ℕ
-form_two = 13
+pattern abbrev pub form_two : Form
+form_two = Two
 
-abbrev pub form_one : ℕ
-form_one = 14
+pattern abbrev pub form_one : Form
+form_one = One
+
+-- each by a number of our own, which the table's rows follow
+abbrev pub form_code : Form → ℕ
+form_code Nop = 0
+form_code Contact = 1
+form_code Join = 2
+form_code Branch = 3
+form_code Coil = 4
+form_code Compare = 5
+form_code Timer = 6
+form_code For = 7
+form_code Next = 8
+form_code Jump = 9
+form_code Label = 10
+form_code End = 11
+form_code Three = 12
+form_code Two = 13
+form_code One = 14
+
+abbrev pub form_is : Form → Form → Bool
+form_is f g = eqb (form_code f) (form_code g)
+
+-- a word instruction
+abbrev pub is_word_form : Form → Bool
+is_word_form f = leb (form_code form_three) (form_code f)

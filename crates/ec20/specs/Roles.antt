@@ -1,44 +1,60 @@
 -- The places of operands in the instruction table: the role of each, its width in bits and how many D words it takes.
 use Rattle.std.specs.Prelude.{ℕ, ◌*◌, ◌/◌, Bool, ◌||◌, eqb}
 use Rattle.ec20.specs.declared.Place.{Place}
+use Rattle.ec20.specs.declared.Role.{Role}
+use Rattle.ec20.specs.declared.Role.TheVariants.{Unused, BitRead, BitWritten, Source, Target, Changed, Quotient, Timer, Units, Passes, Label}
 
 -- a place: role, width in bits, D words
-abbrev pub place : ℕ → ℕ → ℕ → Place
+abbrev pub place : Role → ℕ → ℕ → Place
 place r w e = record { role = r; width = w; extent = e }
 
--- The roles, by numbers of our own, which the table's places have
-abbrev pub role_unused : ℕ
-role_unused = 0
+-- The roles that the table's places have
+pattern abbrev pub role_unused : Role
+role_unused = Unused
 
-abbrev pub role_bit_read : ℕ
-role_bit_read = 1
+pattern abbrev pub role_bit_read : Role
+role_bit_read = BitRead
 
-abbrev pub role_bit_written : ℕ
-role_bit_written = 2
+pattern abbrev pub role_bit_written : Role
+role_bit_written = BitWritten
 
-abbrev pub role_source : ℕ
-role_source = 3
+pattern abbrev pub role_source : Role
+role_source = Source
 
-abbrev pub role_target : ℕ
-role_target = 4
+pattern abbrev pub role_target : Role
+role_target = Target
 
-abbrev pub role_changed : ℕ
-role_changed = 5
+pattern abbrev pub role_changed : Role
+role_changed = Changed
 
-abbrev pub role_quotient : ℕ
-role_quotient = 6
+pattern abbrev pub role_quotient : Role
+role_quotient = Quotient
 
-abbrev pub role_timer : ℕ
-role_timer = 7
+pattern abbrev pub role_timer : Role
+role_timer = Timer
 
-abbrev pub role_units : ℕ
-role_units = 8
+pattern abbrev pub role_units : Role
+role_units = Units
 
-abbrev pub role_passes : ℕ
-role_passes = 9
+pattern abbrev pub role_passes : Role
+role_passes = Passes
 
-abbrev pub role_label : ℕ
-role_label = 10
+pattern abbrev pub role_label : Role
+role_label = Label
+
+-- each by a number of our own
+abbrev pub role_code : Role → ℕ
+role_code Unused = 0
+role_code BitRead = 1
+role_code BitWritten = 2
+role_code Source = 3
+role_code Target = 4
+role_code Changed = 5
+role_code Quotient = 6
+role_code Timer = 7
+role_code Units = 8
+role_code Passes = 9
+role_code Label = 10
 
 -- no operand
 abbrev pub unused : Place
@@ -78,8 +94,8 @@ passes = place role_passes 16 0
 abbrev pub label : Place
 label = place role_label 0 0
 
-abbrev pub role_is : ℕ → Place → Bool
-role_is r p = eqb p.role r
+abbrev pub role_is : Role → Place → Bool
+role_is r p = eqb (role_code p.role) (role_code r)
 
 -- its extent is read, its extent is written: a "target, also read" is both
 abbrev pub is_read : Place → Bool

@@ -4,20 +4,57 @@
 
 // ---- the instruction table
 
-// A place for an operand: its role (specs/Roles.antt names them), its width in bits, and how many D words it takes there.
+// What an operand is for at its place. (specs/Roles.antt has what each allows.) Changed: a target that is also read; Units: those of a timer; Passes:
+// those of a loop.
+#[derive(Clone, Copy, PartialEq, Eq)]
+pub enum Role {
+    Unused,
+    BitRead,
+    BitWritten,
+    Source,
+    Target,
+    Changed,
+    Quotient,
+    Timer,
+    Units,
+    Passes,
+    Label,
+}
+
+// Which form of instruction a number makes. Three, Two and One are word instructions: of two sources and a target, of a source and a target, of a
+// target that is also read.
+#[derive(Clone, Copy, PartialEq, Eq)]
+pub enum Form {
+    Nop,
+    Contact,
+    Join,
+    Branch,
+    Coil,
+    Compare,
+    Timer,
+    For,
+    Next,
+    Jump,
+    Label,
+    End,
+    Three,
+    Two,
+    One,
+}
+
+// A place for an operand: its role, its width in bits, and how many D words it takes there.
 #[derive(Clone, Copy)]
 pub struct Place {
-    pub role: u8,
+    pub role: Role,
     pub width: u8,
     pub extent: u8,
 }
 
-// The row of an instruction number: whether there is one, which form of instruction it makes (specs/Forms.antt names the forms), and the
-// places of its operands.
+// The row of an instruction number: whether there is one, which form of instruction it makes, and the places of its operands.
 #[derive(Clone, Copy)]
 pub struct Row {
     pub known: bool,
-    pub form: u8,
+    pub form: Form,
     pub first: Place,
     pub second: Place,
     pub third: Place,

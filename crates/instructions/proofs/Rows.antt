@@ -1,30 +1,20 @@
--- Eleven cells make the row again.
+-- The rows of the table, and a fact of each.
 use Prim.Native.Nat.{ℕ, zero, suc, ◌<◌, ◌≤◌}
 use mathlib.Core.Bool.{Bool, true, ◌&&◌}
 use native.Mathlib.Omega.{arith}
 use native.Mathlib.Decide.{ℕ_discrete}
-use mathlib.Core.Path.{◌≡◌, sym, ap, ◌∙◌}
-use mathlib.Core.List.{List, [], map}
+use mathlib.Core.Path.{◌≡◌, refl, sym, ap, ◌∙◌}
+use mathlib.Core.List.{List}
 use lib.Dec.{eqb}
-use lib.ListN.{get_or, get_or-map, get_or-eq_default}
+use lib.ListN.{get_or, get_or-eq_default}
 use Rattle.ec20.specs.Table.{table, row_of, unknown}
-use Rattle.ec20.specs.Roles.{place}
 use Rattle.ec20.specs.declared.Row.{Row}
 use Rattle.ec20.proofs.Tests.{both}
-use Rattle.instructions.specs.Cells.{cells, cells_of}
 
--- the row that eleven cells say
-abbrev pub made : List ℕ → Row
-made t = record { known = eqb (get_or t 0 0) 1; form = get_or t 1 0; first = place (get_or t 2 0) (get_or t 3 0) (get_or t 4 0); second = place (get_or t 5 0) (get_or t 6 0) (get_or t 7 0); third = place (get_or t 8 0) (get_or t 9 0) (get_or t 10 0) }
-
--- row n of the table, by its cells
-pub row-by-cells : (n : ℕ) → made (get_or cells n []) ≡ row_of n
-unfolding table row_of cells cells_of
-row-by-cells n = sym (get_or-map made (map cells_of table) n [])
-
--- cell j of row n of a lent table that is the table: what the row says there
-pub cell : (rows : List (List ℕ)) (n j : ℕ) (of : Row → ℕ) → ((t : List ℕ) → get_or t j 0 ≡ of (made t)) → rows ≡ cells → get_or (get_or rows n []) j 0 ≡ of (row_of n)
-cell rows n j of says e = ap (λ (t : List (List ℕ)). get_or (get_or t n []) j 0) e ∙ says (get_or cells n []) ∙ ap of (row-by-cells n)
+-- row n of what is the table
+pub row-at : (rows : List Row) (n : ℕ) → rows ≡ table → get_or rows n unknown ≡ row_of n
+unfolding row_of
+row-at rows n e = rw e refl
 
 -- past the table
 pub row-past : (n : ℕ) → 56 ≤ n → unknown ≡ row_of n

@@ -3,172 +3,379 @@
 #![tactic(auto)]
 
 ghost use Rattle.std.specs.Prelude.{◌<◌, ◌≡◌};
-ghost use Rattle.ec20.specs.Table.{row_of};
-ghost use Rattle.instructions.specs.Cells.{cells};
+ghost use Rattle.ec20.specs.Table.{table, row_of};
 
-use ec20::{Place, Row};
+use ec20::{Form, Place, Role, Row};
 
-// A row is: 1 if the number is known; the form of instruction that it makes; then role, width in bits and D words of each of the three
-// places. The roles are: 0 unused, 1 a bit that is read, 2 a bit that is written, 3 source, 4 target, 5 target that is also read, 6 quotient
-// and remainder, 7 timer, 8 units of a timer, 9 passes of a loop, 10 label. The forms are: 0 none, 1 contact, 2 join, 3 branch, 4 coil,
-// 5 compare, 6 timer, 7 FOR, 8 NEXT, 9 jump, 10 label, 11 END, and the word instructions: 12 two sources and a target, 13 a source and a
-// target, 14 a target that is also read.
-const TABLE: [[u8; 11]; 56] = [
-    [1, 0, 0, 0, 0, 0, 0, 0, 0, 0, 0], // 0 NOP
-    [1, 1, 1, 1, 0, 0, 0, 0, 0, 0, 0], // 1 LD
-    [1, 1, 1, 1, 0, 0, 0, 0, 0, 0, 0], // 2 LDI
-    [1, 1, 1, 1, 0, 0, 0, 0, 0, 0, 0], // 3 AND
-    [1, 1, 1, 1, 0, 0, 0, 0, 0, 0, 0], // 4 ANI
-    [1, 1, 1, 1, 0, 0, 0, 0, 0, 0, 0], // 5 OR
-    [1, 1, 1, 1, 0, 0, 0, 0, 0, 0, 0], // 6 ORI
-    [1, 2, 0, 0, 0, 0, 0, 0, 0, 0, 0], // 7 ANB
-    [1, 2, 0, 0, 0, 0, 0, 0, 0, 0, 0], // 8 ORB
-    [1, 3, 0, 0, 0, 0, 0, 0, 0, 0, 0], // 9 MPS
-    [1, 3, 0, 0, 0, 0, 0, 0, 0, 0, 0], // 10 MRD
-    [1, 3, 0, 0, 0, 0, 0, 0, 0, 0, 0], // 11 MPP
-    [1, 4, 2, 1, 0, 0, 0, 0, 0, 0, 0], // 12 OUT
-    [1, 4, 2, 1, 0, 0, 0, 0, 0, 0, 0], // 13 SET
-    [1, 4, 2, 1, 0, 0, 0, 0, 0, 0, 0], // 14 RST
-    [1, 5, 3, 16, 1, 3, 16, 1, 0, 0, 0], // 15 LD=
-    [1, 5, 3, 16, 1, 3, 16, 1, 0, 0, 0], // 16 LD>
-    [1, 5, 3, 16, 1, 3, 16, 1, 0, 0, 0], // 17 LD<
-    [1, 6, 7, 16, 0, 8, 16, 0, 0, 0, 0], // 18 TON
-    [1, 7, 9, 16, 0, 0, 0, 0, 0, 0, 0], // 19 FOR
-    [1, 8, 0, 0, 0, 0, 0, 0, 0, 0, 0], // 20 NEXT
-    [1, 9, 10, 0, 0, 0, 0, 0, 0, 0, 0], // 21 CJ
-    [1, 10, 10, 0, 0, 0, 0, 0, 0, 0, 0], // 22 LBL
-    [1, 11, 0, 0, 0, 0, 0, 0, 0, 0, 0], // 23 END
-    [0, 0, 0, 0, 0, 0, 0, 0, 0, 0, 0], // 24
-    [0, 0, 0, 0, 0, 0, 0, 0, 0, 0, 0], // 25
-    [0, 0, 0, 0, 0, 0, 0, 0, 0, 0, 0], // 26
-    [0, 0, 0, 0, 0, 0, 0, 0, 0, 0, 0], // 27
-    [0, 0, 0, 0, 0, 0, 0, 0, 0, 0, 0], // 28
-    [0, 0, 0, 0, 0, 0, 0, 0, 0, 0, 0], // 29
-    [0, 0, 0, 0, 0, 0, 0, 0, 0, 0, 0], // 30
-    [0, 0, 0, 0, 0, 0, 0, 0, 0, 0, 0], // 31
-    [1, 13, 3, 16, 1, 4, 16, 1, 0, 0, 0], // 32 MOV
-    [1, 12, 3, 16, 1, 3, 16, 1, 4, 16, 1], // 33 ADD
-    [1, 12, 3, 16, 1, 3, 16, 1, 4, 16, 1], // 34 SUB
-    [1, 12, 3, 16, 1, 3, 16, 1, 6, 16, 2], // 35 DIV
-    [1, 13, 3, 16, 1, 4, 16, 1, 0, 0, 0], // 36 SQT
-    [1, 14, 5, 16, 1, 0, 0, 0, 0, 0, 0], // 37 INC
-    [1, 14, 5, 16, 1, 0, 0, 0, 0, 0, 0], // 38 DEC
-    [1, 13, 3, 16, 1, 4, 16, 1, 0, 0, 0], // 39 VABS
-    [1, 13, 3, 16, 1, 4, 16, 1, 0, 0, 0], // 40 NEG
-    [0, 0, 0, 0, 0, 0, 0, 0, 0, 0, 0], // 41
-    [0, 0, 0, 0, 0, 0, 0, 0, 0, 0, 0], // 42
-    [0, 0, 0, 0, 0, 0, 0, 0, 0, 0, 0], // 43
-    [0, 0, 0, 0, 0, 0, 0, 0, 0, 0, 0], // 44
-    [0, 0, 0, 0, 0, 0, 0, 0, 0, 0, 0], // 45
-    [0, 0, 0, 0, 0, 0, 0, 0, 0, 0, 0], // 46
-    [0, 0, 0, 0, 0, 0, 0, 0, 0, 0, 0], // 47
-    [1, 13, 3, 32, 2, 4, 32, 2, 0, 0, 0], // 48 DMOV
-    [1, 12, 3, 32, 2, 3, 32, 2, 4, 32, 2], // 49 DADD
-    [1, 12, 3, 32, 2, 3, 32, 2, 4, 32, 2], // 50 DSUB
-    [1, 12, 3, 32, 2, 3, 32, 2, 4, 32, 2], // 51 DMUL
-    [1, 12, 3, 32, 2, 3, 32, 2, 6, 32, 4], // 52 DDIV
-    [1, 13, 3, 32, 2, 4, 32, 2, 0, 0, 0], // 53 DSQT
-    [1, 14, 5, 32, 2, 0, 0, 0, 0, 0, 0], // 54 DINC
-    [1, 14, 5, 32, 2, 0, 0, 0, 0, 0, 0], // 55 DDEC
-];
-
+// The places. A source, a target, and a target that is also read stand in one word of D or in two; a quotient has its remainder behind it.
 const UNUSED: Place = Place {
-    role: 0,
+    role: Role::Unused,
     width: 0,
     extent: 0,
 };
 
-// What a number past the table is.
-const UNKNOWN: Row = Row {
-    known: false,
-    form: 0,
+const BIT_READ: Place = Place {
+    role: Role::BitRead,
+    width: 1,
+    extent: 0,
+};
+
+const BIT_WRITTEN: Place = Place {
+    role: Role::BitWritten,
+    width: 1,
+    extent: 0,
+};
+
+const SOURCE_16: Place = Place {
+    role: Role::Source,
+    width: 16,
+    extent: 1,
+};
+
+const TARGET_16: Place = Place {
+    role: Role::Target,
+    width: 16,
+    extent: 1,
+};
+
+const CHANGED_16: Place = Place {
+    role: Role::Changed,
+    width: 16,
+    extent: 1,
+};
+
+const QUOTIENT_16: Place = Place {
+    role: Role::Quotient,
+    width: 16,
+    extent: 2,
+};
+
+const SOURCE_32: Place = Place {
+    role: Role::Source,
+    width: 32,
+    extent: 2,
+};
+
+const TARGET_32: Place = Place {
+    role: Role::Target,
+    width: 32,
+    extent: 2,
+};
+
+const CHANGED_32: Place = Place {
+    role: Role::Changed,
+    width: 32,
+    extent: 2,
+};
+
+const QUOTIENT_32: Place = Place {
+    role: Role::Quotient,
+    width: 32,
+    extent: 4,
+};
+
+const TIMER_PLACE: Place = Place {
+    role: Role::Timer,
+    width: 16,
+    extent: 0,
+};
+
+const UNITS_PLACE: Place = Place {
+    role: Role::Units,
+    width: 16,
+    extent: 0,
+};
+
+const PASSES_PLACE: Place = Place {
+    role: Role::Passes,
+    width: 16,
+    extent: 0,
+};
+
+const LABEL_PLACE: Place = Place {
+    role: Role::Label,
+    width: 0,
+    extent: 0,
+};
+
+// The rows that the numbers have.
+const NOP: Row = Row {
+    known: true,
+    form: Form::Nop,
     first: UNUSED,
     second: UNUSED,
     third: UNUSED,
 };
 
+const CONTACT: Row = Row {
+    known: true,
+    form: Form::Contact,
+    first: BIT_READ,
+    second: UNUSED,
+    third: UNUSED,
+};
+
+const JOIN: Row = Row {
+    known: true,
+    form: Form::Join,
+    first: UNUSED,
+    second: UNUSED,
+    third: UNUSED,
+};
+
+const BRANCH: Row = Row {
+    known: true,
+    form: Form::Branch,
+    first: UNUSED,
+    second: UNUSED,
+    third: UNUSED,
+};
+
+const COIL: Row = Row {
+    known: true,
+    form: Form::Coil,
+    first: BIT_WRITTEN,
+    second: UNUSED,
+    third: UNUSED,
+};
+
+const COMPARE: Row = Row {
+    known: true,
+    form: Form::Compare,
+    first: SOURCE_16,
+    second: SOURCE_16,
+    third: UNUSED,
+};
+
+const TIMER: Row = Row {
+    known: true,
+    form: Form::Timer,
+    first: TIMER_PLACE,
+    second: UNITS_PLACE,
+    third: UNUSED,
+};
+
+const FOR: Row = Row {
+    known: true,
+    form: Form::For,
+    first: PASSES_PLACE,
+    second: UNUSED,
+    third: UNUSED,
+};
+
+const NEXT: Row = Row {
+    known: true,
+    form: Form::Next,
+    first: UNUSED,
+    second: UNUSED,
+    third: UNUSED,
+};
+
+const JUMP: Row = Row {
+    known: true,
+    form: Form::Jump,
+    first: LABEL_PLACE,
+    second: UNUSED,
+    third: UNUSED,
+};
+
+const LABEL: Row = Row {
+    known: true,
+    form: Form::Label,
+    first: LABEL_PLACE,
+    second: UNUSED,
+    third: UNUSED,
+};
+
+const END: Row = Row {
+    known: true,
+    form: Form::End,
+    first: UNUSED,
+    second: UNUSED,
+    third: UNUSED,
+};
+
+const TWO_16: Row = Row {
+    known: true,
+    form: Form::Two,
+    first: SOURCE_16,
+    second: TARGET_16,
+    third: UNUSED,
+};
+
+const THREE_16: Row = Row {
+    known: true,
+    form: Form::Three,
+    first: SOURCE_16,
+    second: SOURCE_16,
+    third: TARGET_16,
+};
+
+const DIVISION_16: Row = Row {
+    known: true,
+    form: Form::Three,
+    first: SOURCE_16,
+    second: SOURCE_16,
+    third: QUOTIENT_16,
+};
+
+const ONE_16: Row = Row {
+    known: true,
+    form: Form::One,
+    first: CHANGED_16,
+    second: UNUSED,
+    third: UNUSED,
+};
+
+const TWO_32: Row = Row {
+    known: true,
+    form: Form::Two,
+    first: SOURCE_32,
+    second: TARGET_32,
+    third: UNUSED,
+};
+
+const THREE_32: Row = Row {
+    known: true,
+    form: Form::Three,
+    first: SOURCE_32,
+    second: SOURCE_32,
+    third: TARGET_32,
+};
+
+const DIVISION_32: Row = Row {
+    known: true,
+    form: Form::Three,
+    first: SOURCE_32,
+    second: SOURCE_32,
+    third: QUOTIENT_32,
+};
+
+const ONE_32: Row = Row {
+    known: true,
+    form: Form::One,
+    first: CHANGED_32,
+    second: UNUSED,
+    third: UNUSED,
+};
+
+// No instruction.
+const UNKNOWN: Row = Row {
+    known: false,
+    form: Form::Nop,
+    first: UNUSED,
+    second: UNUSED,
+    third: UNUSED,
+};
+
+const TABLE: [Row; 56] = [
+    NOP, // 0 NOP
+    CONTACT, // 1 LD
+    CONTACT, // 2 LDI
+    CONTACT, // 3 AND
+    CONTACT, // 4 ANI
+    CONTACT, // 5 OR
+    CONTACT, // 6 ORI
+    JOIN, // 7 ANB
+    JOIN, // 8 ORB
+    BRANCH, // 9 MPS
+    BRANCH, // 10 MRD
+    BRANCH, // 11 MPP
+    COIL, // 12 OUT
+    COIL, // 13 SET
+    COIL, // 14 RST
+    COMPARE, // 15 LD=
+    COMPARE, // 16 LD>
+    COMPARE, // 17 LD<
+    TIMER, // 18 TON
+    FOR, // 19 FOR
+    NEXT, // 20 NEXT
+    JUMP, // 21 CJ
+    LABEL, // 22 LBL
+    END, // 23 END
+    UNKNOWN, // 24
+    UNKNOWN, // 25
+    UNKNOWN, // 26
+    UNKNOWN, // 27
+    UNKNOWN, // 28
+    UNKNOWN, // 29
+    UNKNOWN, // 30
+    UNKNOWN, // 31
+    TWO_16, // 32 MOV
+    THREE_16, // 33 ADD
+    THREE_16, // 34 SUB
+    DIVISION_16, // 35 DIV
+    TWO_16, // 36 SQT
+    ONE_16, // 37 INC
+    ONE_16, // 38 DEC
+    TWO_16, // 39 VABS
+    TWO_16, // 40 NEG
+    UNKNOWN, // 41
+    UNKNOWN, // 42
+    UNKNOWN, // 43
+    UNKNOWN, // 44
+    UNKNOWN, // 45
+    UNKNOWN, // 46
+    UNKNOWN, // 47
+    TWO_32, // 48 DMOV
+    THREE_32, // 49 DADD
+    THREE_32, // 50 DSUB
+    THREE_32, // 51 DMUL
+    DIVISION_32, // 52 DDIV
+    TWO_32, // 53 DSQT
+    ONE_32, // 54 DINC
+    ONE_32, // 55 DDEC
+];
+
 // The table, made once by whoever looks rows up and then lent: the compiler would else make it anew at each look-up.
-pub fn table() -> [[u8; 11]; 56]
-    ensures { result ≡ cells }
-{
-    TABLE
+#[derive(Drop)]
+pub struct RowTable {
+    rows: [Row; 56],
+    pub ghost told: { rows ≡ table },
 }
 
-// The row of an instruction number; past the table, unknown.
-pub fn row_in(rows: &[[u8; 11]; 56], n: usize) -> Row
-    requires { rows.now ≡ cells }
-    ensures { result ≡ row_of n }
-{
-    if n >= 56 {
-        return UNKNOWN;
+pub fn table() -> RowTable {
+    RowTable { rows: TABLE }
+}
+
+impl RowTable {
+    // The row of an instruction number; past the table, unknown.
+    pub fn row_in(&self, n: usize) -> Row
+        ensures { result ≡ row_of n }
+    {
+        if n < 56 { self.rows[n] } else { UNKNOWN }
     }
-    let [
-        known,
-        form,
-        role,
-        width,
-        extent,
-        role_2,
-        width_2,
-        extent_2,
-        role_3,
-        width_3,
-        extent_3,
-    ] = rows[n];
-    Row {
-        known: known == 1,
-        form,
-        first: Place {
-            role,
-            width,
-            extent,
-        },
-        second: Place {
-            role: role_2,
-            width: width_2,
-            extent: extent_2,
-        },
-        third: Place {
-            role: role_3,
-            width: width_3,
-            extent: extent_3,
-        },
+
+    // Of a row the form alone.
+    pub fn form_in(&self, n: usize) -> Form
+        ensures { result ≡ (row_of n).form }
+    {
+        if n < 56 { self.rows[n].form } else { Form::Nop }
     }
-}
 
-// Of a row the form alone.
-pub fn form_in(rows: &[[u8; 11]; 56], n: usize) -> u8
-    requires { rows.now ≡ cells }
-    ensures { result ≡ (row_of n).form }
-{
-    if n < 56 { rows[n][1] } else { 0 }
-}
+    // What a step of a scan asks of a row. The numbers of an accepted program are all in the table, so that no test stands here.
 
-// What a step of a scan asks of a row. The numbers of an accepted program are all in the table, so that no test stands here.
+    // The form.
+    pub fn form_at(&self, n: usize) -> Form
+        requires { n < 56 }
+        ensures { result ≡ (row_of n).form }
+    {
+        self.rows[n].form
+    }
 
-// The form.
-pub fn form_at(rows: &[[u8; 11]; 56], n: usize) -> u8
-    requires rows_value { rows.now ≡ cells }
-    requires n_bound { n < 56 }
-    ensures { result ≡ (row_of n).form }
-{
-    rows[n][1]
-}
+    // The width of the first operand in bits: of a word instruction and of a comparison the width of all its operands.
+    pub fn width_at(&self, n: usize) -> u8
+        requires { n < 56 }
+        ensures { result ≡ (row_of n).first.width }
+    {
+        self.rows[n].first.width
+    }
 
-// The width of the first operand in bits: of a word instruction and of a comparison the width of all its operands.
-pub fn width_at(rows: &[[u8; 11]; 56], n: usize) -> u8
-    requires rows_value { rows.now ≡ cells }
-    requires n_bound { n < 56 }
-    ensures { result ≡ (row_of n).first.width }
-{
-    rows[n][3]
-}
-
-// The D words of the third operand: of DIV and DDIV those of quotient and remainder together.
-pub fn third_at(rows: &[[u8; 11]; 56], n: usize) -> u8
-    requires rows_value { rows.now ≡ cells }
-    requires n_bound { n < 56 }
-    ensures { result ≡ (row_of n).third.extent }
-{
-    rows[n][10]
+    // The D words of the third operand: of DIV and DDIV those of quotient and remainder together.
+    pub fn third_at(&self, n: usize) -> u8
+        requires { n < 56 }
+        ensures { result ≡ (row_of n).third.extent }
+    {
+        self.rows[n].third.extent
+    }
 }

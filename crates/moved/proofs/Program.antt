@@ -17,7 +17,7 @@ use Rattle.ec20.specs.File.{Records}
 use Rattle.ec20.specs.Move.{Block}
 use Rattle.ec20.specs.Operands.{in_d}
 use Rattle.ec20.specs.Table.{row_of}
-use Rattle.ec20.specs.Forms.{form_contact, form_join, form_branch, form_coil, form_compare, form_timer, form_for, form_next, form_jump, form_label, form_end, form_three, form_two, form_one}
+use Rattle.ec20.specs.Forms.{form_is, form_contact, form_join, form_branch, form_coil, form_compare, form_timer, form_for, form_next, form_jump, form_label, form_end, form_three, form_two, form_one}
 use Rattle.moving.specs.Rename.{rename_operand, rename_rec, rename_instr, rename_program, Along, Whole}
 use Rattle.moving.proofs.Operand.{rename-other}
 use Rattle.refusals.specs.Records.{OperandAt, first, second, third}
@@ -66,7 +66,7 @@ module _ {v : Device} {rs : Records} {b : Block} {q : ℕ} (pl : Placed v rs b q
   first-same : (i : ℕ) → eqb form i ≡ true → has_bare i ≡ true → rename_operand σ r.first ≡ r.first
   first-same i e y = bare-same two (fits first) (bare-first r.number (ap has_bare (eqb-true form i e) ∙ y))
 
-  timer-same : eqb form form_timer ≡ true → (rename_operand σ r.first ≡ r.first) × (rename_operand σ r.second ≡ r.second)
+  timer-same : form_is form form_timer ≡ true → (rename_operand σ r.first ≡ r.first) × (rename_operand σ r.second ≡ r.second)
   timer-same e =
       let n = timer-both r.number e in
       (bare-same two (fits first) n.0, bare-same two (fits second) n.1)
@@ -74,40 +74,40 @@ module _ {v : Device} {rs : Records} {b : Block} {q : ℕ} (pl : Placed v rs b q
   pub instr-renamed : instr_of (rename_rec σ r) ≡ rename_instr σ (instr_of r)
   unfolding instr_by rename_rec rename_instr
   instr-renamed =
-      pick-renamed σ (eqb form form_contact) _ _ _ _ (λ e. rw (first-same form_contact e refl)) (λ _.
-      pick-renamed σ (eqb form form_join) _ _ _ _ (λ _. refl) (λ _.
-      pick-renamed σ (eqb form form_branch) _ _ _ _ (λ _. refl) (λ _.
-      pick-renamed σ (eqb form form_coil) _ _ _ _ (λ e. rw (first-same form_coil e refl)) (λ _.
-      pick-renamed σ (eqb form form_compare) _ _ _ _ (λ _. refl) (λ _.
-      pick-renamed σ (eqb form form_timer) _ _ _ _ (λ e. rw ((timer-same e).0, (timer-same e).1)) (λ _.
-      pick-renamed σ (eqb form form_for) _ _ _ _ (λ e. rw (first-same form_for e refl)) (λ _.
-      pick-renamed σ (eqb form form_next) _ _ _ _ (λ _. refl) (λ _.
-      pick-renamed σ (eqb form form_jump) _ _ _ _ (λ e. rw (first-same form_jump e refl)) (λ _.
-      pick-renamed σ (eqb form form_label) _ _ _ _ (λ e. rw (first-same form_label e refl)) (λ _.
-      pick-renamed σ (eqb form form_end) _ _ _ _ (λ _. refl) (λ _.
-      pick-renamed σ (eqb form form_three) _ _ _ _ (λ _. refl) (λ _.
-      pick-renamed σ (eqb form form_two) _ _ _ _ (λ _. rw (none-renamed σ)) (λ _.
-      pick-renamed σ (eqb form form_one) _ _ _ _ (λ _. rw (none-renamed σ)) (λ _. refl))))))))))))))
+      pick-renamed σ (form_is form form_contact) _ _ _ _ (λ e. rw (first-same form_contact e refl)) (λ _.
+      pick-renamed σ (form_is form form_join) _ _ _ _ (λ _. refl) (λ _.
+      pick-renamed σ (form_is form form_branch) _ _ _ _ (λ _. refl) (λ _.
+      pick-renamed σ (form_is form form_coil) _ _ _ _ (λ e. rw (first-same form_coil e refl)) (λ _.
+      pick-renamed σ (form_is form form_compare) _ _ _ _ (λ _. refl) (λ _.
+      pick-renamed σ (form_is form form_timer) _ _ _ _ (λ e. rw ((timer-same e).0, (timer-same e).1)) (λ _.
+      pick-renamed σ (form_is form form_for) _ _ _ _ (λ e. rw (first-same form_for e refl)) (λ _.
+      pick-renamed σ (form_is form form_next) _ _ _ _ (λ _. refl) (λ _.
+      pick-renamed σ (form_is form form_jump) _ _ _ _ (λ e. rw (first-same form_jump e refl)) (λ _.
+      pick-renamed σ (form_is form form_label) _ _ _ _ (λ e. rw (first-same form_label e refl)) (λ _.
+      pick-renamed σ (form_is form form_end) _ _ _ _ (λ _. refl) (λ _.
+      pick-renamed σ (form_is form form_three) _ _ _ _ (λ _. refl) (λ _.
+      pick-renamed σ (form_is form form_two) _ _ _ _ (λ _. rw (none-renamed σ)) (λ _.
+      pick-renamed σ (form_is form form_one) _ _ _ _ (λ _. rw (none-renamed σ)) (λ _. refl))))))))))))))
 
   pub instr-whole : Whole σ (instr_of r)
   unfolding instr_by Whole
   instr-whole =
-      picked (Whole σ) (eqb form form_contact) _ _ (λ _. tt) (λ _.
-      picked (Whole σ) (eqb form form_join) _ _ (λ _. tt) (λ _.
-      picked (Whole σ) (eqb form form_branch) _ _ (λ _. tt) (λ _.
-      picked (Whole σ) (eqb form form_coil) _ _ (λ _. tt) (λ _.
-      picked (Whole σ) (eqb form form_compare) _ _ (λ _. tt) (λ _.
-      picked (Whole σ) (eqb form form_timer) _ _ (λ _. tt) (λ _.
-      picked (Whole σ) (eqb form form_for) _ _ (λ _. tt) (λ _.
-      picked (Whole σ) (eqb form form_next) _ _ (λ _. tt) (λ _.
-      picked (Whole σ) (eqb form form_jump) _ _ (λ _. tt) (λ _.
-      picked (Whole σ) (eqb form form_label) _ _ (λ _. tt) (λ _.
-      picked (Whole σ) (eqb form form_end) _ _ (λ _. tt) (λ _.
-      picked (Whole σ) (eqb form form_three) _ _
+      picked (Whole σ) (form_is form form_contact) _ _ (λ _. tt) (λ _.
+      picked (Whole σ) (form_is form form_join) _ _ (λ _. tt) (λ _.
+      picked (Whole σ) (form_is form form_branch) _ _ (λ _. tt) (λ _.
+      picked (Whole σ) (form_is form form_coil) _ _ (λ _. tt) (λ _.
+      picked (Whole σ) (form_is form form_compare) _ _ (λ _. tt) (λ _.
+      picked (Whole σ) (form_is form form_timer) _ _ (λ _. tt) (λ _.
+      picked (Whole σ) (form_is form form_for) _ _ (λ _. tt) (λ _.
+      picked (Whole σ) (form_is form form_next) _ _ (λ _. tt) (λ _.
+      picked (Whole σ) (form_is form form_jump) _ _ (λ _. tt) (λ _.
+      picked (Whole σ) (form_is form form_label) _ _ (λ _. tt) (λ _.
+      picked (Whole σ) (form_is form form_end) _ _ (λ _. tt) (λ _.
+      picked (Whole σ) (form_is form form_three) _ _
       (λ e. let w = three-words r.number e in (along two (fits first) _ w.0, along two (fits second) _ w.1, along two (fits third) _ w.2)) (λ _.
-      picked (Whole σ) (eqb form form_two) _ _
+      picked (Whole σ) (form_is form form_two) _ _
       (λ e. let w = two-words r.number e in (along two (fits first) _ w.0, none-along σ _, along two (fits second) _ w.1)) (λ _.
-      picked (Whole σ) (eqb form form_one) _ _
+      picked (Whole σ) (form_is form form_one) _ _
       (λ e. let w = one_word r.number e in (along two (fits first) _ w.0, none-along σ _, along two (fits first) _ w.1)) (λ _. tt))))))))))))))
 
 -- the program of records

@@ -11,18 +11,18 @@ use Rattle.ec20.specs.Basics.{pick}
 use Rattle.ec20.specs.declared.Place.{Place}
 use Rattle.ec20.specs.declared.Row.{Row}
 use Rattle.ec20.specs.Table.{table, unknown, row_of}
-use Rattle.ec20.specs.Forms.{form_contact, form_coil, form_timer, form_for, form_jump, form_label, form_three, form_two, form_one}
+use Rattle.ec20.specs.Forms.{form_is, form_contact, form_coil, form_timer, form_for, form_jump, form_label, form_three, form_two, form_one}
 use Rattle.ec20.specs.Step.{width_of}
 use Rattle.ec20.specs.Words.{is}
 use Rattle.moving.specs.Rename.{words_of, written_by}
 
 -- of the rows of one form
 abbrev of-form : ℕ → (ℕ → Row → Bool) → ℕ → Row → Bool
-of-form form test n w = not (eqb w.form form) || test n w
+of-form form test n w = not (form_is w.form form) || test n w
 
 form-test : (form : ℕ) (test : ℕ → Row → Bool) → ((n : ℕ) → of-form form test n unknown ≡ true) → every (of-form form test) 0 table ≡ true
-    → (n : ℕ) → eqb (row_of n).form form ≡ true → test n (row_of n) ≡ true
-form-test form test u e n = implied (eqb (row_of n).form form) (test n (row_of n)) (row-test (of-form form test) u e n)
+    → (n : ℕ) → form_is (row_of n).form form ≡ true → test n (row_of n) ≡ true
+form-test form test u e n = implied (form_is (row_of n).form form) (test n (row_of n)) (row-test (of-form form test) u e n)
 
 -- ---- bits, timers, passes and labels do not stand at places for words
 
@@ -31,7 +31,7 @@ bare p = not (is_word p)
 
 -- a form whose first operand is a bit, the passes or a label
 abbrev pub has_bare : ℕ → Bool
-has_bare form = eqb form form_contact || eqb form form_coil || eqb form form_for || eqb form form_jump || eqb form form_label
+has_bare form = form_is form form_contact || form_is form form_coil || form_is form form_for || form_is form form_jump || form_is form form_label
 
 abbrev bare_first : ℕ → Row → Bool
 bare_first n w = not (has_bare w.form) || bare w.first
@@ -44,7 +44,7 @@ module _ (n : ℕ) where
   unfolding table
   bare-first e = not-true _ (implied _ _ (row-test bare_first (λ n. refl) refl n) e)
 
-  pub timer-both : eqb (row_of n).form form_timer ≡ true → (is_word (row_of n).first ≡ false) × (is_word (row_of n).second ≡ false)
+  pub timer-both : form_is (row_of n).form form_timer ≡ true → (is_word (row_of n).first ≡ false) × (is_word (row_of n).second ≡ false)
   unfolding table
   timer-both e =
       let h = both (bare (row_of n).first) (bare (row_of n).second) (form-test form_timer bare_both (λ n. refl) refl n e) in
@@ -77,21 +77,21 @@ module _ (n : ℕ) where
   abbrev Writes : Place → Type 0
   Writes p = written_by n ≤ p.extent
 
-  pub three-words : eqb (row_of n).form form_three ≡ true → Reads (row_of n).first × Reads (row_of n).second × Writes (row_of n).third
+  pub three-words : form_is (row_of n).form form_three ≡ true → Reads (row_of n).first × Reads (row_of n).second × Writes (row_of n).third
   unfolding table
   three-words e =
       let w = row_of n in
       let h = each (reads w w.first) (reads w w.second) (writes n w w.third) (form-test form_three wide_three (λ n. refl) refl n e) in
       (leb-true _ _ h.0, leb-true _ _ h.1, leb-true _ _ h.2)
 
-  pub two-words : eqb (row_of n).form form_two ≡ true → Reads (row_of n).first × Writes (row_of n).second
+  pub two-words : form_is (row_of n).form form_two ≡ true → Reads (row_of n).first × Writes (row_of n).second
   unfolding table
   two-words e =
       let w = row_of n in
       let h = both (reads w w.first) (writes n w w.second) (form-test form_two wide_two (λ n. refl) refl n e) in
       (leb-true _ _ h.0, leb-true _ _ h.1)
 
-  pub one_word : eqb (row_of n).form form_one ≡ true → Reads (row_of n).first × Writes (row_of n).first
+  pub one_word : form_is (row_of n).form form_one ≡ true → Reads (row_of n).first × Writes (row_of n).first
   unfolding table
   one_word e =
       let w = row_of n in

@@ -14,7 +14,7 @@ use Rattle.ec20.specs.declared.Rec.{Rec}
 use Rattle.ec20.specs.Basics.{pick}
 use Rattle.ec20.specs.Operands.{start_of, extent_of}
 use Rattle.ec20.specs.Table.{table, row_of, unknown}
-use Rattle.ec20.specs.Forms.{form_contact, form_join, form_branch, form_coil, form_compare, form_timer, form_for, form_next, form_jump, form_label, form_end, form_three, form_two, form_one}
+use Rattle.ec20.specs.Forms.{form_is, form_contact, form_join, form_branch, form_coil, form_compare, form_timer, form_for, form_next, form_jump, form_label, form_end, form_three, form_two, form_one}
 use Rattle.ec20.specs.Roles.{is_written}
 use Rattle.ec20.specs.Code.{instr_by, instr_of}
 use Rattle.ec20.specs.Words.{is}
@@ -34,9 +34,9 @@ target_ok n w p =
 
 abbrev row_ok : ℕ → Row → Bool
 row_ok n w =
-    pick (eqb w.form form_three) (target_ok n w w.third)
-    (pick (eqb w.form form_two) (target_ok n w w.second)
-    (pick (eqb w.form form_one) (target_ok n w w.first)
+    pick (form_is w.form form_three) (target_ok n w w.third)
+    (pick (form_is w.form form_two) (target_ok n w w.second)
+    (pick (form_is w.form form_one) (target_ok n w w.first)
     true))
 
 abbrev rows_ok : ℕ → List Row → Bool
@@ -90,23 +90,23 @@ record-spares i r e =
     let ok = every-row r.number in
     let ab = neither (Marks i w.first r.first || Marks i w.second r.second) (Marks i w.third r.third) e in
     let a = neither (Marks i w.first r.first) (Marks i w.second r.second) ab.0 in
-    picked (Spared i) (eqb f form_contact) _ _ (λ _. tt)
-    (λ _. picked (Spared i) (eqb f form_join) _ _ (λ _. tt)
-    (λ _. picked (Spared i) (eqb f form_branch) _ _ (λ _. tt)
-    (λ _. picked (Spared i) (eqb f form_coil) _ _ (λ _. tt)
-    (λ _. picked (Spared i) (eqb f form_compare) _ _ (λ _. tt)
-    (λ _. picked (Spared i) (eqb f form_timer) _ _ (λ _. tt)
-    (λ _. picked (Spared i) (eqb f form_for) _ _ (λ _. tt)
-    (λ _. picked (Spared i) (eqb f form_next) _ _ (λ _. tt)
-    (λ _. picked (Spared i) (eqb f form_jump) _ _ (λ _. tt)
-    (λ _. picked (Spared i) (eqb f form_label) _ _ (λ _. tt)
-    (λ _. picked (Spared i) (eqb f form_end) _ _ (λ _. tt)
-    (λ _. picked (Spared i) (eqb f form_three) _ _
-    (λ q. place-spares i r.number w w.third r.third refl (first_of (eqb f form_three) _ _ q ok) ab.1)
-    (λ q3. picked (Spared i) (eqb f form_two) _ _
-    (λ q. place-spares i r.number w w.second r.second refl (first_of (eqb f form_two) _ _ q (second-of (eqb f form_three) _ _ q3 ok)) a.1)
-    (λ q2. picked (Spared i) (eqb f form_one) _ _
+    picked (Spared i) (form_is f form_contact) _ _ (λ _. tt)
+    (λ _. picked (Spared i) (form_is f form_join) _ _ (λ _. tt)
+    (λ _. picked (Spared i) (form_is f form_branch) _ _ (λ _. tt)
+    (λ _. picked (Spared i) (form_is f form_coil) _ _ (λ _. tt)
+    (λ _. picked (Spared i) (form_is f form_compare) _ _ (λ _. tt)
+    (λ _. picked (Spared i) (form_is f form_timer) _ _ (λ _. tt)
+    (λ _. picked (Spared i) (form_is f form_for) _ _ (λ _. tt)
+    (λ _. picked (Spared i) (form_is f form_next) _ _ (λ _. tt)
+    (λ _. picked (Spared i) (form_is f form_jump) _ _ (λ _. tt)
+    (λ _. picked (Spared i) (form_is f form_label) _ _ (λ _. tt)
+    (λ _. picked (Spared i) (form_is f form_end) _ _ (λ _. tt)
+    (λ _. picked (Spared i) (form_is f form_three) _ _
+    (λ q. place-spares i r.number w w.third r.third refl (first_of (form_is f form_three) _ _ q ok) ab.1)
+    (λ q3. picked (Spared i) (form_is f form_two) _ _
+    (λ q. place-spares i r.number w w.second r.second refl (first_of (form_is f form_two) _ _ q (second-of (form_is f form_three) _ _ q3 ok)) a.1)
+    (λ q2. picked (Spared i) (form_is f form_one) _ _
     (λ q.
     place-spares i r.number w w.first r.first refl
-    (first_of (eqb f form_one) _ _ q (second-of (eqb f form_two) _ _ q2 (second-of (eqb f form_three) _ _ q3 ok))) a.0)
+    (first_of (form_is f form_one) _ _ q (second-of (form_is f form_two) _ _ q2 (second-of (form_is f form_three) _ _ q3 ok))) a.0)
     (λ _. tt))))))))))))))

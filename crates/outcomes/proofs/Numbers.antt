@@ -8,13 +8,13 @@ use lib.Dec.{eqb, leb}
 use Rattle.ec20.proofs.Tests.{both, differ}
 use Rattle.ec20.specs.Step.{width_of}
 use Rattle.ec20.specs.Table.{table, row_of}
-use Rattle.ec20.specs.Forms.{form_three}
+use Rattle.ec20.specs.Forms.{is_word_form, form_three}
 use Rattle.instructions.proofs.Rows.{every_below, at_every}
 use Rattle.outcomes.specs.Done.{WordAt}
 
 -- a word instruction of w bits has a number from a to z
 abbrev within : ℕ → ℕ → ℕ → ℕ → Bool
-within w a z n = not (leb form_three (row_of n).form && eqb (width_of n) w) || (leb a n && leb n z)
+within w a z n = not (is_word_form (row_of n).form && eqb (width_of n) w) || (leb a n && leb n z)
 
 abbrev Between : ℕ → ℕ → ℕ → Type 0
 Between a z n = (a ≤ n) × (n ≤ z)
@@ -31,7 +31,7 @@ numbers w a z every {n} h = between (at_every (within w a z) 56 every n h.known)
   where
     between : within w a z n ≡ true → Between a z n
     between e =
-        let p = both (leb a n) (leb n z) (where-both (leb form_three (row_of n).form) (eqb (width_of n) w) (le-leb _ _ h.form) (eq-eqb _ _ h.width) e) in
+        let p = both (leb a n) (leb n z) (where-both (is_word_form (row_of n).form) (eqb (width_of n) w) (le-leb _ _ h.form) (eq-eqb _ _ h.width) e) in
         (leb-true a n p.0, leb-true n z p.1)
 
 pub of-16 : {n i : ℕ} {f : List ℕ} → WordAt 16 n i f → (32 ≤ n) × (n ≤ 40)
@@ -43,17 +43,17 @@ unfolding row_of table
 of-32 h = numbers 32 48 55 refl h
 
 -- 16 bits, or 32
-two : every_below (λ n. not (leb form_three (row_of n).form && not (eqb (width_of n) 16)) || eqb (width_of n) 32) 56 ≡ true
+two : every_below (λ n. not (is_word_form (row_of n).form && not (eqb (width_of n) 16)) || eqb (width_of n) 32) 56 ≡ true
 unfolding row_of table
 two = refl
 
 pub not_16 : {n i : ℕ} {f : List ℕ} → WordAt (width_of n) n i f → (width_of n ≡ 16 → ⊥) → WordAt 32 n i f
 not_16 {n} h e =
-    let g = at_every (λ n. not (leb form_three (row_of n).form && not (eqb (width_of n) 16)) || eqb (width_of n) 32) 56 two n h.known in
+    let g = at_every (λ n. not (is_word_form (row_of n).form && not (eqb (width_of n) 16)) || eqb (width_of n) 32) 56 two n h.known in
     record {
       known = h.known;
       form = h.form;
-      width = eqb-true _ _ (where-both (leb form_three (row_of n).form) (not (eqb (width_of n) 16)) (le-leb _ _ h.form) (rw (ne_eqb _ _ e) refl) g);
+      width = eqb-true _ _ (where-both (is_word_form (row_of n).form) (not (eqb (width_of n) 16)) (le-leb _ _ h.form) (rw (ne_eqb _ _ e) refl) g);
       near = h.near;
       room = h.room;
     }

@@ -8,7 +8,7 @@ use Rattle.ec20.specs.Mnemonics.{DIV, DDIV}
 use Rattle.ec20.specs.Numbers.{half}
 use Rattle.ec20.specs.Step.{width_of, outcome_of}
 use Rattle.ec20.specs.Table.{row_of}
-use Rattle.ec20.specs.Forms.{form_three, form_two}
+use Rattle.ec20.specs.Forms.{form_is, form_three, form_two}
 use Rattle.ec20.specs.Words.{store_all}
 use Rattle.ec20.specs.declared.Operand.{Operand}
 
@@ -27,12 +27,12 @@ pub record Divides (n w h : ℕ) : Type 0 where
 
 -- the second source of the record at byte i: none, but where the table has two
 abbrev pub second_of : List ℕ → ℕ → ℕ → Operand
-second_of f n i = pick (eqb (row_of n).form form_three) (operand_at f (i + 8)) no_operand
+second_of f n i = pick (form_is (row_of n).form form_three) (operand_at f (i + 8)) no_operand
 
 -- its target: the third operand, the second, or the first, which is also read
 abbrev pub target_of : List ℕ → ℕ → ℕ → Operand
 target_of f n i =
-    operand_at f (pick (eqb (row_of n).form form_three) (i + 14) (pick (eqb (row_of n).form form_two) (i + 8) (i + 2)))
+    operand_at f (pick (form_is (row_of n).form form_three) (i + 14) (pick (form_is (row_of n).form form_two) (i + 8) (i + 2)))
 
 -- the error of the outcome, 0 if there is none; "One that ends in error changes nothing"
 pub record Done (n : ℕ) (a b t : Operand) (c : Memory) (q : ℕ) (after : Memory) : Type 0 where

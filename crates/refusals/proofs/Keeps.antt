@@ -15,7 +15,7 @@ use Rattle.ec20.specs.declared.Rung.{Rung}
 use Rattle.ec20.specs.Basics.{pick}
 use Rattle.ec20.specs.Code.{instr_by, instr_of, code_of, program_of}
 use Rattle.ec20.specs.File.{records_of}
-use Rattle.ec20.specs.Forms.{form_contact, form_join, form_branch, form_coil, form_compare, form_timer, form_for, form_next, form_jump, form_label, form_end, form_three, form_two, form_one}
+use Rattle.ec20.specs.Forms.{form_is, form_contact, form_join, form_branch, form_coil, form_compare, form_timer, form_for, form_next, form_jump, form_label, form_end, form_three, form_two, form_one}
 use Rattle.ec20.specs.Rung.{rung, is_load, starts, both_empty, load_ok, action_ok, branch_ok, keeps, after_load, branches_after, after_action, no_flow, after_record}
 use Rattle.ec20.specs.Table.{table, row_of}
 use Rattle.ec20.proofs.EachRow.{row-test}
@@ -44,20 +44,20 @@ Formed (Word n a b t) = 32 ≤ n
 -- the numbers that a form has in the table
 abbrev fits : ℕ → ℕ → Bool
 fits form n =
-    pick (eqb form form_contact) (leb 1 n && leb n 6)
-    (pick (eqb form form_join) (leb 7 n && leb n 8)
-    (pick (eqb form form_branch) (leb 9 n && leb n 11)
-    (pick (eqb form form_coil) (leb 12 n && leb n 14)
-    (pick (eqb form form_compare) (leb 15 n && leb n 17)
-    (pick (eqb form form_timer) true
-    (pick (eqb form form_for) true
-    (pick (eqb form form_next) true
-    (pick (eqb form form_jump) true
-    (pick (eqb form form_label) true
-    (pick (eqb form form_end) true
-    (pick (eqb form form_three) (leb 32 n)
-    (pick (eqb form form_two) (leb 32 n)
-    (pick (eqb form form_one) (leb 32 n)
+    pick (form_is form form_contact) (leb 1 n && leb n 6)
+    (pick (form_is form form_join) (leb 7 n && leb n 8)
+    (pick (form_is form form_branch) (leb 9 n && leb n 11)
+    (pick (form_is form form_coil) (leb 12 n && leb n 14)
+    (pick (form_is form form_compare) (leb 15 n && leb n 17)
+    (pick (form_is form form_timer) true
+    (pick (form_is form form_for) true
+    (pick (form_is form form_next) true
+    (pick (form_is form form_jump) true
+    (pick (form_is form form_label) true
+    (pick (form_is form form_end) true
+    (pick (form_is form form_three) (leb 32 n)
+    (pick (form_is form form_two) (leb 32 n)
+    (pick (form_is form form_one) (leb 32 n)
     true)))))))))))))
 
 row_fits : (n : ℕ) → fits (row_of n).form n ≡ true
@@ -75,20 +75,20 @@ formed-by : (form : ℕ) (r : Rec) → fits form r.number ≡ true → Formed (i
 unfolding instr_by
 formed-by form r =
     let n : ℕ = r.number in
-    in_both (eqb form form_contact) _ _ _ _ (within 1 n 6)
-    (in_both (eqb form form_join) _ _ _ _ (within 7 n 8)
-    (in_both (eqb form form_branch) _ _ _ _ (within 9 n 11)
-    (in_both (eqb form form_coil) _ _ _ _ (within 12 n 14)
-    (in_both (eqb form form_compare) _ _ _ _ (within 15 n 17)
-    (in_both (eqb form form_timer) _ _ _ _ (λ e. tt)
-    (in_both (eqb form form_for) _ _ _ _ (λ e. tt)
-    (in_both (eqb form form_next) _ _ _ _ (λ e. tt)
-    (in_both (eqb form form_jump) _ _ _ _ (λ e. tt)
-    (in_both (eqb form form_label) _ _ _ _ (λ e. tt)
-    (in_both (eqb form form_end) _ _ _ _ (λ e. tt)
-    (in_both (eqb form form_three) _ _ _ _ (leb-true 32 n)
-    (in_both (eqb form form_two) _ _ _ _ (leb-true 32 n)
-    (in_both (eqb form form_one) _ _ _ _ (leb-true 32 n)
+    in_both (form_is form form_contact) _ _ _ _ (within 1 n 6)
+    (in_both (form_is form form_join) _ _ _ _ (within 7 n 8)
+    (in_both (form_is form form_branch) _ _ _ _ (within 9 n 11)
+    (in_both (form_is form form_coil) _ _ _ _ (within 12 n 14)
+    (in_both (form_is form form_compare) _ _ _ _ (within 15 n 17)
+    (in_both (form_is form form_timer) _ _ _ _ (λ e. tt)
+    (in_both (form_is form form_for) _ _ _ _ (λ e. tt)
+    (in_both (form_is form form_next) _ _ _ _ (λ e. tt)
+    (in_both (form_is form form_jump) _ _ _ _ (λ e. tt)
+    (in_both (form_is form form_label) _ _ _ _ (λ e. tt)
+    (in_both (form_is form form_end) _ _ _ _ (λ e. tt)
+    (in_both (form_is form form_three) _ _ _ _ (leb-true 32 n)
+    (in_both (form_is form form_two) _ _ _ _ (leb-true 32 n)
+    (in_both (form_is form form_one) _ _ _ _ (leb-true 32 n)
     (λ e. tt))))))))))))))
 
 -- so has each instruction of a file
@@ -101,20 +101,20 @@ formed f k =
 -- and the number of the instruction that a known record makes is the record's own
 abbrev numbered : ℕ → ℕ → ℕ
 numbered form n =
-    pick (eqb form form_contact) n
-    (pick (eqb form form_join) n
-    (pick (eqb form form_branch) n
-    (pick (eqb form form_coil) n
-    (pick (eqb form form_compare) n
-    (pick (eqb form form_timer) 18
-    (pick (eqb form form_for) 19
-    (pick (eqb form form_next) 20
-    (pick (eqb form form_jump) 21
-    (pick (eqb form form_label) 22
-    (pick (eqb form form_end) 23
-    (pick (eqb form form_three) n
-    (pick (eqb form form_two) n
-    (pick (eqb form form_one) n
+    pick (form_is form form_contact) n
+    (pick (form_is form form_join) n
+    (pick (form_is form form_branch) n
+    (pick (form_is form form_coil) n
+    (pick (form_is form form_compare) n
+    (pick (form_is form form_timer) 18
+    (pick (form_is form form_for) 19
+    (pick (form_is form form_next) 20
+    (pick (form_is form form_jump) 21
+    (pick (form_is form form_label) 22
+    (pick (form_is form form_end) 23
+    (pick (form_is form form_three) n
+    (pick (form_is form form_two) n
+    (pick (form_is form form_one) n
     0)))))))))))))
 
 either_way : (t : Bool) (x y : Instr) (a b : ℕ) → number_of x ≡ a → number_of y ≡ b → number_of (pick t x y) ≡ pick t a b
@@ -124,20 +124,20 @@ either_way false x y a b e f = f
 number_by : (form : ℕ) (r : Rec) → number_of (instr_by form r) ≡ numbered form r.number
 unfolding instr_by
 number_by form r =
-    either_way (eqb form form_contact) _ _ _ _ refl
-    (either_way (eqb form form_join) _ _ _ _ refl
-    (either_way (eqb form form_branch) _ _ _ _ refl
-    (either_way (eqb form form_coil) _ _ _ _ refl
-    (either_way (eqb form form_compare) _ _ _ _ refl
-    (either_way (eqb form form_timer) _ _ _ _ refl
-    (either_way (eqb form form_for) _ _ _ _ refl
-    (either_way (eqb form form_next) _ _ _ _ refl
-    (either_way (eqb form form_jump) _ _ _ _ refl
-    (either_way (eqb form form_label) _ _ _ _ refl
-    (either_way (eqb form form_end) _ _ _ _ refl
-    (either_way (eqb form form_three) _ _ _ _ refl
-    (either_way (eqb form form_two) _ _ _ _ refl
-    (either_way (eqb form form_one) _ _ _ _ refl refl)))))))))))))
+    either_way (form_is form form_contact) _ _ _ _ refl
+    (either_way (form_is form form_join) _ _ _ _ refl
+    (either_way (form_is form form_branch) _ _ _ _ refl
+    (either_way (form_is form form_coil) _ _ _ _ refl
+    (either_way (form_is form form_compare) _ _ _ _ refl
+    (either_way (form_is form form_timer) _ _ _ _ refl
+    (either_way (form_is form form_for) _ _ _ _ refl
+    (either_way (form_is form form_next) _ _ _ _ refl
+    (either_way (form_is form form_jump) _ _ _ _ refl
+    (either_way (form_is form form_label) _ _ _ _ refl
+    (either_way (form_is form form_end) _ _ _ _ refl
+    (either_way (form_is form form_three) _ _ _ _ refl
+    (either_way (form_is form form_two) _ _ _ _ refl
+    (either_way (form_is form form_one) _ _ _ _ refl refl)))))))))))))
 
 row-numbered : (n : ℕ) → (not (row_of n).known || eqb (numbered (row_of n).form n) n) ≡ true
 unfolding table

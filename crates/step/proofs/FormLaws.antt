@@ -14,7 +14,7 @@ use Rattle.ec20.specs.Control.{control_of, controls_of, next_of_for, first_label
 use Rattle.ec20.specs.File.{records_from, record_from, operand_at, u32_at, byte_at}
 use Rattle.ec20.specs.Step.{width_of}
 use Rattle.ec20.specs.Table.{table, row_of}
-use Rattle.ec20.specs.Forms.{form_nop, form_compare, form_three}
+use Rattle.ec20.specs.Forms.{form_is, is_word_form, form_nop, form_compare, form_three}
 use Rattle.ec20.proofs.Tests.{differ}
 use Rattle.jumps.proofs.Within.{goes_in}
 use Rattle.jumps.specs.Prepared.{goes_to, Prepared}
@@ -46,11 +46,11 @@ form_within : ℕ → Bool
 form_within n = leb (row_of n).form 14
 
 compared_wide : ℕ → Bool
-compared_wide n = not (eqb (row_of n).form form_compare) || eqb (width_of n) 16
+compared_wide n = not (form_is (row_of n).form form_compare) || eqb (width_of n) 16
 
 left_form : ℕ → Bool
 left_form n =
-    (leb n 14 || (leb 18 n && leb n 23)) || (leb form_three (row_of n).form || eqb (row_of n).form form_compare) || eqb (row_of n).form form_nop
+    (leb n 14 || (leb 18 n && leb n 23)) || (is_word_form (row_of n).form || form_is (row_of n).form form_compare) || form_is (row_of n).form form_nop
 
 every-within : every_below form_within 56 ≡ true
 unfolding form_within row_of table
@@ -78,7 +78,7 @@ three n h a =
 -- a comparison is of 16 bits
 pub sixteen : (n : ℕ) → n < 56 → (row_of n).form ≡ 5 → width_of n ≡ 16
 unfolding compared_wide
-sixteen n h e = eqb-true _ _ (second-of (eqb (row_of n).form form_compare) (eq-eqb _ _ e) (at_every compared_wide 56 every-compared n h))
+sixteen n h e = eqb-true _ _ (second-of (form_is (row_of n).form form_compare) (eq-eqb _ _ e) (at_every compared_wide 56 every-compared n h))
   where
     second-of : (p : Bool) {q : Bool} → p ≡ true → (not p || q) ≡ true → q ≡ true
     second-of true g h = h
@@ -98,8 +98,8 @@ none : (n : ℕ) → n < 56 → Left n → (row_of n).form < 12 → ((row_of n).
 unfolding left_form
 none n h l a b =
     let k : ℕ = (row_of n).form in
-    let neither : (leb form_three k || eqb k form_compare) ≡ false = rw (lt-leb form_three k a, ne_eqb k form_compare b) refl in
-    eqb-true _ _ (last_of (leb n 14 || (leb 18 n && leb n 23)) (leb form_three k || eqb k form_compare) (outside n l.above l.apart) neither (at_every left_form 56 every-left n h))
+    let neither : (is_word_form k || form_is k form_compare) ≡ false = rw (lt-is_word_form k a, ne_eqb k form_compare b) refl in
+    eqb-true _ _ (last_of (leb n 14 || (leb 18 n && leb n 23)) (is_word_form k || form_is k form_compare) (outside n l.above l.apart) neither (at_every left_form 56 every-left n h))
 
 inside : (f : List ℕ) (first count k : ℕ) → k < count → code_of (records_from f first count) k ≡ instr_by (row_of (record_from f (first + 20 * k)).number).form (record_from f (first + 20 * k))
 unfolding code_of

@@ -1,2 +1,0 @@
--- The table as its cells.
-pub mod Cells
