@@ -8,15 +8,14 @@ ghost use Rattle.ec20.specs.Check.{check_of};
 ghost use Rattle.ec20.specs.Code.{program_in};
 ghost use Rattle.ec20.specs.Control.{controls_of};
 ghost use Rattle.ec20.specs.File.{records_from};
-ghost use Rattle.instructions.specs.Cells.{cells};
 ghost use Rattle.labels.specs.Sound.{Sound};
 ghost use Rattle.records.specs.Ranges.{Held};
 
 use ec20::{Accepted, Frame, Refusal};
+use instructions::RowTable;
 
 // 2, 3 and 4 in record order, by the instruction table; then 5, 6, 7 and 8, each over the whole program.
-fn judge(rows: &[[u8; 11]; 56], f: &[u8], first: usize, count: usize) -> Result<Accepted, Refusal>
-    requires rows_value { rows.now ≡ cells }
+fn judge(rows: &RowTable, f: &[u8], first: usize, count: usize) -> Result<Accepted, Refusal>
     requires held { Held (length f.now) first count }
     ensures { result ≡ from_records (records_from f.now first count) }
 {

@@ -4,44 +4,45 @@ use mathlib.Core.Bool.{Bool, true, false, not, ◌&&◌, ◌||◌}
 use mathlib.Core.Path.{◌≡◌, refl, sym, subst}
 use native.Mathlib.Omega.{arith}
 use native.Mathlib.Decide.{dec_lt}
-use borrow.Author.Tests.{eqb-true, lt-leb, le-leb}
-use lib.Dec.{leb, eqb}
-use Rattle.ec20.specs.declared.Instr.{Instr}
+use borrow.Author.Tests.{lt-leb, le-leb}
+use lib.Dec.{leb}
+use Rattle.ec20.specs.declared.Form.{Form}
+use Rattle.ec20.specs.declared.Form.TheVariants.{Nop as FormNop, Contact as FormContact, Join as FormJoin, Branch as FormBranch, Coil as FormCoil, Compare as FormCompare, Timer as FormTimer, For as FormFor, Next as FormNext, Jump as FormJump, Label as FormLabel, End as FormEnd, Three as FormThree, Two as FormTwo, One as FormOne}
+use Rattle.ec20.specs.Forms.{form_code}
 use Rattle.ec20.specs.declared.Rec.{Rec}
 use Rattle.ec20.specs.declared.Control.TheVariants.{Plain, Opens, Closes, Jumps, Marks, Ends}
 use Rattle.ec20.specs.declared.Row.{Row}
 use Rattle.ec20.specs.Code.{instr_by, instr_of}
 use Rattle.ec20.specs.Control.{control_of}
 use Rattle.ec20.specs.Table.{table, row_of}
-use Rattle.ec20.proofs.Tests.{picked, differ}
+use Rattle.ec20.proofs.Tests.{differ}
 use Rattle.instructions.proofs.Rows.{every_below, at_every, row-past}
 
 -- the form is not one of FOR, NEXT, CJ, LBL and END
-abbrev Loose : ℕ → Type 0
-Loose form = (leb 7 form && leb form 11) ≡ false
+abbrev Loose : Form → Type 0
+Loose form = (leb 7 (form_code form) && leb (form_code form) 11) ≡ false
 
-plain_form : (form : ℕ) (r : Rec) → Loose form → control_of (instr_by form r) ≡ Plain
+plain_form : (form : Form) (r : Rec) → Loose form → control_of (instr_by form r) ≡ Plain
 unfolding instr_by control_of
-plain_form form r h =
-    picked (λ (i : Instr). control_of i ≡ Plain) (eqb form 1) _ _ (λ e. refl)
-    (λ _. picked (λ (i : Instr). control_of i ≡ Plain) (eqb form 2) _ _ (λ e. refl)
-    (λ _. picked (λ (i : Instr). control_of i ≡ Plain) (eqb form 3) _ _ (λ e. refl)
-    (λ _. picked (λ (i : Instr). control_of i ≡ Plain) (eqb form 4) _ _ (λ e. refl)
-    (λ _. picked (λ (i : Instr). control_of i ≡ Plain) (eqb form 5) _ _ (λ e. refl)
-    (λ _. picked (λ (i : Instr). control_of i ≡ Plain) (eqb form 6) _ _ (λ e. refl)
-    (λ _. picked (λ (i : Instr). control_of i ≡ Plain) (eqb form 7) _ _ (λ e. differ (subst Loose (eqb-true form 7 e) h))
-    (λ _. picked (λ (i : Instr). control_of i ≡ Plain) (eqb form 8) _ _ (λ e. differ (subst Loose (eqb-true form 8 e) h))
-    (λ _. picked (λ (i : Instr). control_of i ≡ Plain) (eqb form 9) _ _ (λ e. differ (subst Loose (eqb-true form 9 e) h))
-    (λ _. picked (λ (i : Instr). control_of i ≡ Plain) (eqb form 10) _ _ (λ e. differ (subst Loose (eqb-true form 10 e) h))
-    (λ _. picked (λ (i : Instr). control_of i ≡ Plain) (eqb form 11) _ _ (λ e. differ (subst Loose (eqb-true form 11 e) h))
-    (λ _. picked (λ (i : Instr). control_of i ≡ Plain) (eqb form 12) _ _ (λ e. refl)
-    (λ _. picked (λ (i : Instr). control_of i ≡ Plain) (eqb form 13) _ _ (λ e. refl)
-    (λ _. picked (λ (i : Instr). control_of i ≡ Plain) (eqb form 14) _ _ (λ e. refl)
-    (λ _. refl))))))))))))))
+plain_form FormNop r h = refl
+plain_form FormContact r h = refl
+plain_form FormJoin r h = refl
+plain_form FormBranch r h = refl
+plain_form FormCoil r h = refl
+plain_form FormCompare r h = refl
+plain_form FormTimer r h = refl
+plain_form FormFor r h = differ h
+plain_form FormNext r h = differ h
+plain_form FormJump r h = differ h
+plain_form FormLabel r h = differ h
+plain_form FormEnd r h = differ h
+plain_form FormThree r h = refl
+plain_form FormTwo r h = refl
+plain_form FormOne r h = refl
 
 -- number n is 19 to 23, or its form is none of theirs
 loose_at : ℕ → Bool
-loose_at n = leb 19 n && leb n 23 || not (leb 7 (row_of n).form && leb (row_of n).form 11)
+loose_at n = leb 19 n && leb n 23 || not (leb 7 (form_code (row_of n).form) && leb (form_code (row_of n).form) 11)
 
 every : every_below loose_at 56 ≡ true
 unfolding loose_at row_of table

@@ -6,14 +6,14 @@ ghost use Rattle.ec20.specs.Code.{instr_by, instr_of, code_of};
 ghost use Rattle.ec20.specs.Control.{control_of};
 ghost use Rattle.ec20.specs.File.{records_from};
 ghost use Rattle.ec20.specs.declared.Rec.{Rec};
-ghost use Rattle.instructions.specs.Cells.{cells};
 ghost use Rattle.records.specs.Ranges.{Held};
 
-use ec20::{Control, Instr, Operand, Rec};
+use ec20::{Control, Form, Instr, Operand, Rec};
+use instructions::RowTable;
 
 // The instruction that a record makes by a form of the table.
 #[tactic(auto, unfolding(ec20::specs::Code::instr_by))]
-fn instr_by(form: u8, r: Rec) -> Instr
+fn instr_by(form: Form, r: Rec) -> Instr
     ensures { result ≡ instr_by form r }
 {
     let n = r.number;
@@ -26,36 +26,34 @@ fn instr_by(form: u8, r: Rec) -> Instr
         value: 0,
     };
     match form {
-        1 => Instr::Contact(n, first),
-        2 => Instr::Join(n),
-        3 => Instr::Branch(n),
-        4 => Instr::Coil(n, first),
-        5 => Instr::Compare(n, first, second),
-        6 => Instr::Timer(first.value, second.value),
-        7 => Instr::For(first.value),
-        8 => Instr::Next,
-        9 => Instr::Jump(first.value),
-        10 => Instr::Label(first.value),
-        11 => Instr::End,
-        12 => Instr::Word(n, first, second, third),
-        13 => Instr::Word(n, first, none, second),
-        14 => Instr::Word(n, first, none, first),
-        _ => Instr::Nop,
+        Form::Nop => Instr::Nop,
+        Form::Contact => Instr::Contact(n, first),
+        Form::Join => Instr::Join(n),
+        Form::Branch => Instr::Branch(n),
+        Form::Coil => Instr::Coil(n, first),
+        Form::Compare => Instr::Compare(n, first, second),
+        Form::Timer => Instr::Timer(first.value, second.value),
+        Form::For => Instr::For(first.value),
+        Form::Next => Instr::Next,
+        Form::Jump => Instr::Jump(first.value),
+        Form::Label => Instr::Label(first.value),
+        Form::End => Instr::End,
+        Form::Three => Instr::Word(n, first, second, third),
+        Form::Two => Instr::Word(n, first, none, second),
+        Form::One => Instr::Word(n, first, none, first),
     }
 }
 
 // The instruction of a record.
-fn instr_of(rows: &[[u8; 11]; 56], r: Rec) -> Instr
-    requires { rows.now ≡ cells }
+fn instr_of(rows: &RowTable, r: Rec) -> Instr
     ensures { result ≡ instr_of r }
 {
-    let form = instructions::form_in(rows, r.number);
+    let form = rows.form_in(r.number);
     instr_by(form, r)
 }
 
 // The instruction of record k; past the last record there is END.
-pub fn instr_at(rows: &[[u8; 11]; 56], f: &[u8], first: usize, count: usize, k: usize) -> Instr
-    requires rows_value { rows.now ≡ cells }
+pub fn instr_at(rows: &RowTable, f: &[u8], first: usize, count: usize, k: usize) -> Instr
     requires held { Held (length f.now) first count }
     ensures { result ≡ code_of (records_from f.now first count) k }
 {

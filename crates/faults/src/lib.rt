@@ -7,10 +7,10 @@ ghost use Rattle.ec20.specs.File.{records_from, record_from};
 ghost use Rattle.ec20.specs.Numbers.{half, between, signed};
 ghost use Rattle.ec20.specs.Operands.{in_range, one_of, constant_in, group_in, words_in, is_unused, is_bit_read, is_bit_written, is_source, is_target, allowed, in_work, operands_ok, target_in_work, fault_of, fault_in, first_bad};
 ghost use Rattle.ec20.specs.Roles.{place};
-ghost use Rattle.instructions.specs.Cells.{cells};
 ghost use Rattle.records.specs.Ranges.{Small, SmallRec, Held};
 
-use ec20::{Operand, Place, Rec, Refusal, Row};
+use ec20::{Operand, Place, Rec, Refusal, Role, Row};
+use instructions::RowTable;
 
 // How many numbers each kind has: none, constant, X, Y, M, SM, T, D, label. (A constant array would be made anew at each look-up.)
 #[tactic(auto, unfolding(ec20::specs::Devices::limit_of))]
@@ -150,11 +150,9 @@ fn is_target(p: Place, o: Operand) -> bool
     ((o.kind == 3) | (o.kind == 4)) & group_in(w, o)
 }
 
-// The operand of a used place is as the place's role allows: one test, by the role. Place and operand come as their numbers: structs would be
-// handed over in memory.
-fn is_allowed(role: u8, width: u8, extent: u8, kind: usize, group: usize, value: usize) -> bool
-    requires role_nonzero { 0 < role }
-    requires small { Small (record { kind = kind; group = group; value = value }) }
+// The operand is as the place's role allows: one test, by the role. Place and operand come as their parts: structs would be handed over in memory.
+fn is_allowed(role: Role, width: u8, extent: u8, kind: usize, group: usize, value: usize) -> bool
+    requires { Small (record { kind = kind; group = group; value = value }) }
     ensures { result ≡ allowed ec20 (place role width extent) (record { kind = kind; group = group; value = value }) }
 {
     let p = Place {
@@ -164,17 +162,16 @@ fn is_allowed(role: u8, width: u8, extent: u8, kind: usize, group: usize, value:
     };
     let o = Operand { kind, group, value };
     match role {
-        1 => is_bit_read(o),
-        2 => is_bit_written(o),
-        3 => is_source(p, o),
-        4 => is_target(p, o),
-        5 => is_target(p, o),
-        6 => words_in(records::wide(extent), o),
-        7 => one_of(6, o),
-        8 => constant_from(1, o),
-        9 => constant_from(0, o),
-        10 => one_of(8, o),
-        _ => false,
+        Role::Unused => is_unused(o),
+        Role::BitRead => is_bit_read(o),
+        Role::BitWritten => is_bit_written(o),
+        Role::Source => is_source(p, o),
+        Role::Target | Role::Changed => is_target(p, o),
+        Role::Quotient => words_in(records::wide(extent), o),
+        Role::Timer => one_of(6, o),
+        Role::Units => constant_from(1, o),
+        Role::Passes => constant_from(0, o),
+        Role::Label => one_of(8, o),
     }
 }
 
@@ -187,11 +184,12 @@ pub fn meets_work(a: usize, n: usize) -> bool
 }
 
 // The operand is a target whose extent meets WORK.
+#[tactic(auto, unfolding(ec20::specs::Operands::in_work))]
 fn in_work(p: Place, o: Operand) -> bool
     requires { Small o }
     ensures { result ≡ in_work ec20 p o }
 {
-    if (p.role == 4) | (p.role == 5) | (p.role == 6) {
+    if matches!(p.role, Role::Target | Role::Changed | Role::Quotient) {
         return extents::in_d(o) & meets_work(extents::start(o), extents::length(p, o));
     }
     false
@@ -200,36 +198,34 @@ fn in_work(p: Place, o: Operand) -> bool
 // Each operand is as the table allows. Most places are unused: such a one is tested where it stands, and the first operand that is not allowed
 // ends it. The three are written out: into a function for one place the compiler puts is_allowed, and hands that function structs, which took
 // 1.25 times as long.
+#[tactic(auto, using(crate::proofs::Roles::unused), unfolding(ec20::specs::Operands::operands_ok))]
 fn operands_ok(w: Row, r: Rec) -> bool
     requires { SmallRec r }
     ensures { result ≡ operands_ok ec20 w r }
 {
     let p = w.first;
     let o = r.first;
-    let one = if p.role == 0 {
-        is_unused(o)
-    } else {
-        is_allowed(p.role, p.width, p.extent, o.kind, o.group, o.value)
+    let one = match p.role {
+        Role::Unused => is_unused(o),
+        _ => is_allowed(p.role, p.width, p.extent, o.kind, o.group, o.value),
     };
     if !one {
         return false;
     }
     let p = w.second;
     let o = r.second;
-    let two = if p.role == 0 {
-        is_unused(o)
-    } else {
-        is_allowed(p.role, p.width, p.extent, o.kind, o.group, o.value)
+    let two = match p.role {
+        Role::Unused => is_unused(o),
+        _ => is_allowed(p.role, p.width, p.extent, o.kind, o.group, o.value),
     };
     if !two {
         return false;
     }
     let p = w.third;
     let o = r.third;
-    if p.role == 0 {
-        is_unused(o)
-    } else {
-        is_allowed(p.role, p.width, p.extent, o.kind, o.group, o.value)
+    match p.role {
+        Role::Unused => is_unused(o),
+        _ => is_allowed(p.role, p.width, p.extent, o.kind, o.group, o.value),
     }
 }
 
@@ -265,22 +261,15 @@ fn fault_of(w: Row, r: Rec) -> usize
 }
 
 // The number that refuses the record.
-fn fault_in(rows: &[[u8; 11]; 56], r: Rec) -> usize
-    requires rows_value { rows.now ≡ cells }
+fn fault_in(rows: &RowTable, r: Rec) -> usize
     requires small_rec { SmallRec r }
     ensures { result ≡ fault_in ec20 r }
 {
-    fault_of(instructions::row_in(rows, r.number), r)
+    fault_of(rows.row_in(r.number), r)
 }
 
 // The first of the records that breaks 2, 3 or 4, by the table. No trailer need follow them.
-pub fn first_bad_among(
-    rows: &[[u8; 11]; 56],
-    f: &[u8],
-    first: usize,
-    count: usize,
-) -> Result<(), Refusal>
-    requires rows_value { rows.now ≡ cells }
+pub fn first_bad_among(rows: &RowTable, f: &[u8], first: usize, count: usize) -> Result<(), Refusal>
     requires count_in_bounds { first + 20 * count ≤ length f.now }
     ensures { result ≡ first_bad ec20 (records_from f.now first count) }
 {
@@ -294,8 +283,7 @@ pub fn first_bad_among(
 }
 
 // The first of the records that breaks 2, 3 or 4, by the table.
-pub fn first_bad(rows: &[[u8; 11]; 56], f: &[u8], first: usize, count: usize) -> Result<(), Refusal>
-    requires rows_value { rows.now ≡ cells }
+pub fn first_bad(rows: &RowTable, f: &[u8], first: usize, count: usize) -> Result<(), Refusal>
     requires held { Held (length f.now) first count }
     ensures { result ≡ first_bad ec20 (records_from f.now first count) }
 {

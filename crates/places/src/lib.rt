@@ -33,7 +33,7 @@ fn used_words(f: &[u8], first: usize, count: usize) -> [u8; 1000]
     let mut used = [0u8; 1000];
     for k in 0..count {
         let r = records::record_from(f, first + 20 * k);
-        mark_all(&mut used, instructions::row_in(&rows, r.number), r);
+        mark_all(&mut used, rows.row_in(r.number), r);
     }
     used
 }

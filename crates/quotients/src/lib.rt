@@ -6,14 +6,15 @@ ghost use Rattle.std.specs.Prelude.{ℕ, ◌+◌, ◌<◌, List, ◌≡◌};
 ghost use Rattle.ec20.specs.File.{operand_at};
 ghost use Rattle.ec20.specs.Memory.{memory, load_of};
 ghost use Rattle.ec20.specs.Numbers.{half};
-ghost use Rattle.instructions.specs.Cells.{cells};
 ghost use Rattle.outcomes.specs.Done.{Done, WordAt, Divides, second_of, target_of};
 ghost use Rattle.std.specs.Int.Signed.{mag};
+
+use instructions::RowTable;
 
 // The record of number n at byte i, a division of W bits, whose first source reads u: the error, 0 if there is none. H is one more than the
 // largest number of W bits. Both sources are read before the quotient is stored; the table says how many words on the remainder stands.
 pub fn divided<const W: usize, const H: u64>(
-    rows: &[[u8; 11]; 56],
+    rows: &RowTable,
     n: usize,
     i: usize,
     u: i64,
@@ -24,7 +25,6 @@ pub fn divided<const W: usize, const H: u64>(
     d: &mut [i16],
     tv: &[i16],
 ) -> usize
-    requires rows_value { rows.now ≡ cells }
     requires word_at { WordAt W n i f.now }
     requires divides { Divides n W H }
     requires by_index { ((s t : List ℕ) → u ≡ load_of W (operand_at f.now (i + 2)) (memory x.now y.old m.old s t d.old tv.now)) × (mag u < half W) }
@@ -37,7 +37,7 @@ pub fn divided<const W: usize, const H: u64>(
     }
     let t = records::operand_at(f, i + 14);
     operands::store(W, t, r.value, y, m, d);
-    let words = records::wide(instructions::third_at(rows, n)) / 2;
+    let words = records::wide(rows.third_at(n)) / 2;
     operands::second(W, t, words, r, y, m, d);
     0
 }

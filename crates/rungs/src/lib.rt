@@ -6,11 +6,11 @@ ghost use Rattle.ec20.specs.Code.{program_in};
 ghost use Rattle.ec20.specs.File.{records_from};
 ghost use Rattle.ec20.specs.Basics.{pick};
 ghost use Rattle.ec20.specs.Rung.{is_load, starts, both_empty, load_ok, action_ok, branch_ok, keeps, after_load, branches_after, after_action, no_flow, rung, after_record, first_broken};
-ghost use Rattle.instructions.specs.Cells.{cells};
 ghost use Rattle.records.specs.Ranges.{Held};
 ghost use Rattle.rungs.specs.Within.{Within};
 
 use ec20::{Instr, Refusal, Rung};
+use instructions::RowTable;
 
 // LD and LDI, of the contacts.
 fn is_load(n: usize) -> bool
@@ -214,12 +214,11 @@ fn after_record(i: Instr, s: Rung) -> Rung
 
 // The first record that breaks the rule, each decoded by the table. A scan, and the check, start with flow absent and both stacks empty.
 pub fn first_broken(
-    rows: &[[u8; 11]; 56],
+    rows: &RowTable,
     f: &[u8],
     first: usize,
     count: usize,
 ) -> Result<(), Refusal>
-    requires rows_value { rows.now ≡ cells }
     requires held { Held (length f.now) first count }
     ensures { result ≡ first_broken (program_in (records_from f.now first count)) }
 {

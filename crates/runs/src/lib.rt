@@ -14,6 +14,7 @@ ghost use Rattle.step.specs.Ready.{Running};
 ghost use Rattle.std.specs.Prelude.{length, ◌≡◌};
 
 use ec20::{Control, Machine, Report, Scanned, Units};
+use instructions::RowTable;
 
 // A scan starts with flow absent and both stacks empty, at record 0.
 fn start() -> Machine
@@ -80,7 +81,7 @@ fn at_end(f: &[u8], first: usize, count: usize, k: usize) -> bool
 // At most `budget` steps, from record 0 on. END is looked for ahead of each step and never given to one, so that no step has to be asked
 // whether it was the last. The steps that may still be made are counted down: one number in the loop, where steps and budget would be two.
 pub fn run(
-    rows: &[[u8; 11]; 56],
+    rows: &RowTable,
     f: &[u8],
     first: usize,
     count: usize,

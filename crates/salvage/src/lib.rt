@@ -7,17 +7,16 @@ ghost use Rattle.ec20.specs.Buffer.{over, sent};
 ghost use Rattle.ec20.specs.Devices.{ec20};
 ghost use Rattle.ec20.specs.File.{record_from, records_as};
 ghost use Rattle.ec20.specs.Written.{end_record};
-ghost use Rattle.instructions.specs.Cells.{cells};
 ghost use Rattle.torn.specs.Kept.{passes as pass, kept_of};
 ghost use Rattle.torn.specs.Salvage.{records_in, size_for, file_with, saved, salvage_of};
 
 use ec20::Refusal;
 use torn::{Kept, Saved};
+use instructions::RowTable;
 
 // Whether the record at byte i is refused by neither 2 nor 3: the checker's search for the first bad record, of this one alone, tells 4 only where these two
 // do not hold. (The checker's test of one record, called from here too, would no longer be put into that search, and a check took 1.4 times as long.)
-fn passes(rows: &[[u8; 11]; 56], t: &[u8], i: usize) -> bool
-    requires rows_value { rows.now ≡ cells }
+fn passes(rows: &RowTable, t: &[u8], i: usize) -> bool
     requires i_in_bounds { i + 20 ≤ length t.now }
     ensures { result ≡ pass ec20 (record_from t.now i) }
 {
@@ -28,8 +27,7 @@ fn passes(rows: &[[u8; 11]; 56], t: &[u8], i: usize) -> bool
 }
 
 // Of the first n records of the torn file those that are kept: up to the first END, or to the first that 2 or 3 refuses.
-fn keep(rows: &[[u8; 11]; 56], t: &[u8], n: usize) -> Kept
-    requires rows_value { rows.now ≡ cells }
+fn keep(rows: &RowTable, t: &[u8], n: usize) -> Kept
     requires n_in_bounds { (20 * n ≤ length t.now) × (n ≤ 2001) }
     ensures { (result ≡ kept_of ec20 (records_as 1 t.now 0 n)) × (result.count ≤ n) × (result.added ≤ 1) }
 {

@@ -6,10 +6,10 @@ ghost use Rattle.ec20.specs.File.{records_from};
 ghost use Rattle.ec20.specs.Move.{block, split_fault};
 ghost use Rattle.ec20.specs.Move.{touches as touchesOf, partly as partlyOf};
 ghost use Rattle.ec20.specs.UseMap.{record_has};
-ghost use Rattle.instructions.specs.Cells.{cells};
 ghost use Rattle.records.specs.Ranges.{Small, SmallRec, Held};
 
 use ec20::{Operand, Place, Rec, Refusal};
+use instructions::RowTable;
 
 // The operand's extent in D meets the n words from `start` on.
 #[tactic(auto, unfolding(ec20::specs::Move::touches))]
@@ -31,12 +31,11 @@ fn partly(start: usize, n: usize, p: Place, o: Operand) -> bool
 
 // One of the record's operands does.
 #[tactic(auto, unfolding(ec20::specs::UseMap::some_operand))]
-fn is_split(rows: &[[u8; 11]; 56], start: usize, n: usize, r: Rec) -> bool
-    requires rows_value { rows.now ≡ cells }
+fn is_split(rows: &RowTable, start: usize, n: usize, r: Rec) -> bool
     requires start_bound { (start < 2 ^ 32) × (n < 2 ^ 32) × SmallRec r }
     ensures { result ≡ record_has (partlyOf (block start n)) r }
 {
-    let w = instructions::row_in(rows, r.number);
+    let w = rows.row_in(r.number);
     partly(start, n, w.first, r.first)
         | partly(start, n, w.second, r.second)
         | partly(start, n, w.third, r.third)

@@ -7,11 +7,11 @@ ghost use Rattle.ec20.specs.Memory.{memory, load_of};
 ghost use Rattle.ec20.specs.Code.{program_in};
 ghost use Rattle.ec20.specs.File.{records_from};
 ghost use Rattle.ec20.specs.Step.{Open, open_loops, world, step_of};
-ghost use Rattle.instructions.specs.Cells.{cells};
 ghost use Rattle.step.specs.Ready.{Running, Due, Left};
 ghost use Rattle.ec20.specs.Timers.{Few, timer_of};
 
 use ec20::{Machine, Operand, Units};
+use instructions::RowTable;
 
 // LD=, LD>, LD<: the first source against the second, of w bits each.
 fn compare<'a>(
@@ -54,7 +54,7 @@ fn timer(u: Units, i: usize, constant: usize, t: &mut [u8], tv: &mut [i16], s: M
 
 // What the match of `exec` leaves: word instructions, comparisons, and numbers of no instruction. The table says which it is, and its width.
 fn rest(
-    rows: &[[u8; 11]; 56],
+    rows: &RowTable,
     n: usize,
     i: usize,
     f: &[u8],
@@ -71,15 +71,14 @@ fn rest(
 ) -> Machine
     requires due { Due f.now first count n i s }
     requires left { Left n }
-    requires rows_value { rows.now ≡ cells }
     ensures { (t : List ℕ) (o : Open) → world (memory x.now y.new m.new sm.new t d.new tv.now) o result ≡ step_of (program_in (records_from f.now first count)) u (world (memory x.now y.old m.old sm.old t d.old tv.now) o s) }
 {
-    let form = instructions::form_at(rows, n);
+    let form = rows.form_at(n);
     if form >= 12 {
         return actions::word(rows, n, i, f, x, y, m, sm, d, tv, s);
     }
     if form == 5 {
-        let w = records::wide(instructions::width_at(rows, n));
+        let w = records::wide(rows.width_at(n));
         let a = records::operand_at(f, i + 2);
         let b = records::operand_at(f, i + 8);
         return compare(w, n, a, b, x, y, m, d, tv, s);
@@ -90,7 +89,7 @@ fn rest(
 // The record due, at byte i of the file, of number n. Each number has an arm of its own, so that the compiler makes one jump of the match and
 // knows the number in each arm.
 fn exec(
-    rows: &[[u8; 11]; 56],
+    rows: &RowTable,
     n: usize,
     i: usize,
     f: &[u8],
@@ -166,7 +165,7 @@ fn exec(
 
 // One step: the record due is executed; past the last record there is END.
 pub fn step(
-    rows: &[[u8; 11]; 56],
+    rows: &RowTable,
     f: &[u8],
     first: usize,
     count: usize,

@@ -5,13 +5,13 @@ ghost use Rattle.ec20.specs.Devices.{ec20};
 ghost use Rattle.ec20.specs.File.{records_from};
 ghost use Rattle.ec20.specs.Roles.{is_read, is_written};
 ghost use Rattle.ec20.specs.UseMap.{holds, some_operand, use_map_of};
-ghost use Rattle.instructions.specs.Cells.{cells};
 ghost use Rattle.marks.specs.Marked.{Widened};
 ghost use Rattle.records.specs.Ranges.{Small, SmallRec, Held};
 ghost use Rattle.usemap.specs.Maps.{read_by, written_by, maps_in};
 ghost use Rattle.std.specs.Prelude.{length, ◌&&◌, true, ◌≡◌};
 
 use ec20::{Frame, Operand, Place, Rec, Refusal, Row, UseMap};
+use instructions::RowTable;
 
 // The extent there is read: a source, or a target that is also read.
 fn is_read(p: Place) -> bool
@@ -58,8 +58,7 @@ fn mark_written(map: &mut [u8; 1000], w: Row, r: Rec)
 }
 
 // The maps of `count` records from the byte `first` on, by the table.
-fn map_by(rows: &[[u8; 11]; 56], f: &[u8], first: usize, count: usize) -> UseMap
-    requires rows_value { rows.now ≡ cells }
+fn map_by(rows: &RowTable, f: &[u8], first: usize, count: usize) -> UseMap
     requires held { Held (length f.now) first count }
     ensures { result ≡ maps_in (records_from f.now first count) }
 {
@@ -67,7 +66,7 @@ fn map_by(rows: &[[u8; 11]; 56], f: &[u8], first: usize, count: usize) -> UseMap
     let mut written = [0u8; 1000];
     for k in 0..count {
         let r = records::record_from(f, first + 20 * k);
-        let w = instructions::row_in(rows, r.number);
+        let w = rows.row_in(r.number);
         mark_read(&mut read, w, r);
         mark_written(&mut written, w, r);
     }

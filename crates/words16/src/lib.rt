@@ -4,13 +4,14 @@
 ghost use Rattle.std.specs.Prelude.{ℕ, ◌+◌, List, ◌≡◌};
 ghost use Rattle.ec20.specs.File.{operand_at};
 ghost use Rattle.ec20.specs.Memory.{memory};
-ghost use Rattle.instructions.specs.Cells.{cells};
 ghost use Rattle.outcomes.specs.Done.{Done, WordAt, second_of, target_of};
+
+use instructions::RowTable;
 
 // The record of number n at byte i: the error, 0 if there is none. The table says that it is a word instruction of this width, and how many
 // words on the remainder stands; the arm says which operation it is.
 pub fn act16(
-    rows: &[[u8; 11]; 56],
+    rows: &RowTable,
     n: usize,
     i: usize,
     f: &[u8],
@@ -21,7 +22,6 @@ pub fn act16(
     d: &mut [i16],
     tv: &[i16],
 ) -> usize
-    requires rows_value { rows.now ≡ cells }
     requires word_at { WordAt 16 n i f.now }
     ensures { (c : List ℕ) → Done n (operand_at f.now (i + 2)) (second_of f.now n i) (target_of f.now n i) (memory x.now y.old m.old sm.old c d.old tv.now) result (memory x.now y.new m.new sm.new c d.new tv.now) }
 {

@@ -20,7 +20,7 @@ pub record_from-requires : goal.record_from-requires
 record_from-requires c = omega (arith, c.requires.count_in_bounds)
 
 pub fault_in-n-requires : goal.fault_in-n-requires
-fault_in-n-requires c = record { rows_value = c.requires.rows_value; small_rec = c.record_from.ensures.1 }
+fault_in-n-requires c = record { small_rec = c.record_from.ensures.1 }
 
 pub returns-then-n-ne0 : goal.returns-then-n-ne0
 returns-then-n-ne0 c =
