@@ -31,7 +31,7 @@ numbers w a z every {n} h = between (at_every (within w a z) 56 every n h.known)
   where
     between : within w a z n ≡ true → Between a z n
     between e =
-        let p = both (leb a n) (leb n z) (where-both (is_word_form (row_of n).form) (eqb (width_of n) w) (le-leb _ _ h.form) (eq-eqb _ _ h.width) e) in
+        let p = both (leb a n) (leb n z) (where-both (is_word_form (row_of n).form) (eqb (width_of n) w) h.form (eq-eqb _ _ h.width) e) in
         (leb-true a n p.0, leb-true n z p.1)
 
 pub of-16 : {n i : ℕ} {f : List ℕ} → WordAt 16 n i f → (32 ≤ n) × (n ≤ 40)
@@ -53,7 +53,7 @@ not_16 {n} h e =
     record {
       known = h.known;
       form = h.form;
-      width = eqb-true _ _ (where-both (is_word_form (row_of n).form) (not (eqb (width_of n) 16)) (le-leb _ _ h.form) (rw (ne_eqb _ _ e) refl) g);
+      width = eqb-true _ _ (where-both (is_word_form (row_of n).form) (not (eqb (width_of n) 16)) h.form (rw (ne_eqb _ _ e) refl) g);
       near = h.near;
       room = h.room;
     }

@@ -1,5 +1,5 @@
 -- What a word instruction with flow does: the error it ends in, and what it stores.
-use Rattle.std.specs.Prelude.{ℕ, ◌+◌, ◌<◌, ◌≤◌, List, ◌⊎◌, ◌≡◌, eqb, length}
+use Rattle.std.specs.Prelude.{ℕ, ◌+◌, ◌<◌, ◌≤◌, List, ◌⊎◌, ◌≡◌, true, eqb, length}
 use Rattle.ec20.specs.Basics.{pick}
 use Rattle.ec20.specs.Code.{no_operand}
 use Rattle.ec20.specs.File.{operand_at}
@@ -8,14 +8,14 @@ use Rattle.ec20.specs.Mnemonics.{DIV, DDIV}
 use Rattle.ec20.specs.Numbers.{half}
 use Rattle.ec20.specs.Step.{width_of, outcome_of}
 use Rattle.ec20.specs.Table.{row_of}
-use Rattle.ec20.specs.Forms.{form_is, form_three, form_two}
+use Rattle.ec20.specs.Forms.{form_is, is_word_form, form_three, form_two}
 use Rattle.ec20.specs.Words.{store_all}
 use Rattle.ec20.specs.declared.Operand.{Operand}
 
 -- the record at byte i is a word instruction of w bits: its number n is in the table, which says so
 pub record WordAt (w n i : ℕ) (f : List ℕ) : Type 0 where
   pub known : n < 56
-  pub form : form_three ≤ (row_of n).form
+  pub form : is_word_form (row_of n).form ≡ true
   pub width : width_of n ≡ w
   pub near : i < 50000
   pub room : i + 20 ≤ length f

@@ -213,12 +213,7 @@ fn after_record(i: Instr, s: Rung) -> Rung
 }
 
 // The first record that breaks the rule, each decoded by the table. A scan, and the check, start with flow absent and both stacks empty.
-pub fn first_broken(
-    rows: &RowTable,
-    f: &[u8],
-    first: usize,
-    count: usize,
-) -> Result<(), Refusal>
+pub fn first_broken(rows: &RowTable, f: &[u8], first: usize, count: usize) -> Result<(), Refusal>
     requires held { Held (length f.now) first count }
     ensures { result ≡ first_broken (program_in (records_from f.now first count)) }
 {

@@ -10,21 +10,21 @@ ghost use Rattle.records.specs.Ranges.{Small, SmallRec, Held};
 ghost use Rattle.usemap.specs.Maps.{read_by, written_by, maps_in};
 ghost use Rattle.std.specs.Prelude.{length, ◌&&◌, true, ◌≡◌};
 
-use ec20::{Frame, Operand, Place, Rec, Refusal, Row, UseMap};
+use ec20::{Frame, Operand, Place, Rec, Refusal, Role, Row, UseMap};
 use instructions::RowTable;
 
 // The extent there is read: a source, or a target that is also read.
 fn is_read(p: Place) -> bool
     ensures { result ≡ is_read p }
 {
-    (p.role == 3) | (p.role == 5)
+    matches!(p.role, Role::Source | Role::Changed)
 }
 
 // The extent there is written: a target, one that is also read, or quotient and remainder.
 fn is_written(p: Place) -> bool
     ensures { result ≡ is_written p }
 {
-    (p.role == 4) | (p.role == 5) | (p.role == 6)
+    matches!(p.role, Role::Target | Role::Changed | Role::Quotient)
 }
 
 // The words that the operand's extent holds are marked, where it is used in the map's way.

@@ -9,7 +9,7 @@ pub loop-k-init : goal.loop-k-init
 loop-k-init c = on_none _
 
 pub passes-requires : goal.passes-requires
-passes-requires c = record { rows_value = c.requires.rows_value; i_in_bounds = omega (arith, c.requires.n_in_bounds) }
+passes-requires c = record { i_in_bounds = omega (arith, c.requires.n_in_bounds) }
 
 pub returns-then-not-passes : goal.returns-then-not-passes
 returns-then-not-passes c =

@@ -17,9 +17,6 @@ overflow_add-first c = omega (arith, c.requires.held.whole, c.requires.held.most
 pub record_from-r-requires : goal.record_from-r-requires
 record_from-r-requires c = omega (arith, c.requires.held.whole)
 
-pub row_in-w-requires : goal.row_in-w-requires
-row_in-w-requires c = c.requires.rows_value
-
 pub mark_read-requires : goal.mark_read-requires
 mark_read-requires c = c.record_from-r.ensures.1
 
