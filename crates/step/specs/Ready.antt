@@ -6,7 +6,6 @@ use Rattle.ec20.specs.File.{records_from, byte_at}
 use Rattle.ec20.specs.Timers.{Few}
 use Rattle.ec20.specs.declared.Machine.{Machine}
 use Rattle.ec20.specs.declared.Units.{Units}
-use Rattle.instructions.specs.Cells.{cells}
 use Rattle.jumps.specs.Prepared.{Prepared}
 use Rattle.records.specs.Ranges.{Held}
 
@@ -14,9 +13,8 @@ use Rattle.records.specs.Ranges.{Held}
 abbrev pub Known : List ℕ → ℕ → ℕ → Type 0
 Known f first count = (k : ℕ) → k < count → byte_at f (first + 20 * k) < 56
 
--- of a run: the instruction table, `count` records from the byte `first` on, whose numbers the instruction table has, where they go, the units that its timers are given
-pub record Running (rows : List (List ℕ)) (f : List ℕ) (first count : ℕ) (goes : List ℕ) (u : Units) : Type 0 where
-  pub table : rows ≡ cells
+-- of a run: `count` records from the byte `first` on, whose numbers the instruction table has, where they go, the units that its timers are given
+pub record Running (f : List ℕ) (first count : ℕ) (goes : List ℕ) (u : Units) : Type 0 where
   pub held : Held (length f) first count
   pub prepared : Prepared (controls_of (program_in (records_from f first count))) count goes
   pub known : Known f first count

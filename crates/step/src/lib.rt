@@ -10,7 +10,7 @@ ghost use Rattle.ec20.specs.Step.{Open, open_loops, world, step_of};
 ghost use Rattle.step.specs.Ready.{Running, Due, Left};
 ghost use Rattle.ec20.specs.Timers.{Few, timer_of};
 
-use ec20::{Machine, Operand, Units};
+use ec20::{Form, Machine, Operand, Units};
 use instructions::RowTable;
 
 // LD=, LD>, LD<: the first source against the second, of w bits each.
@@ -73,17 +73,18 @@ fn rest(
     requires left { Left n }
     ensures { (t : List ℕ) (o : Open) → world (memory x.now y.new m.new sm.new t d.new tv.now) o result ≡ step_of (program_in (records_from f.now first count)) u (world (memory x.now y.old m.old sm.old t d.old tv.now) o s) }
 {
-    let form = rows.form_at(n);
-    if form >= 12 {
-        return actions::word(rows, n, i, f, x, y, m, sm, d, tv, s);
+    match rows.form_at(n) {
+        Form::Three | Form::Two | Form::One => {
+            actions::word(rows, n, i, f, x, y, m, sm, d, tv, s)
+        }
+        Form::Compare => {
+            let w = records::wide(rows.width_at(n));
+            let a = records::operand_at(f, i + 2);
+            let b = records::operand_at(f, i + 8);
+            compare(w, n, a, b, x, y, m, d, tv, s)
+        }
+        _ => flow::go_on(s),
     }
-    if form == 5 {
-        let w = records::wide(rows.width_at(n));
-        let a = records::operand_at(f, i + 2);
-        let b = records::operand_at(f, i + 8);
-        return compare(w, n, a, b, x, y, m, d, tv, s);
-    }
-    flow::go_on(s)
 }
 
 // The record due, at byte i of the file, of number n. Each number has an arm of its own, so that the compiler makes one jump of the match and
@@ -108,7 +109,7 @@ fn exec(
     back: &mut [usize; 8],
     s: Machine,
 ) -> Machine
-    requires running { Running rows.now f.now first count goes.now u }
+    requires running { Running f.now first count goes.now u }
     requires due { Due f.now first count n i s }
     ensures { world (memory x.now y.new m.new sm.new t.new d.new tv.new) (open_loops left.new back.new) result ≡ step_of (program_in (records_from f.now first count)) u (world (memory x.now y.old m.old sm.old t.old d.old tv.old) (open_loops left.old back.old) s) }
 {
@@ -182,7 +183,7 @@ pub fn step(
     back: &mut [usize; 8],
     s: Machine,
 ) -> Machine
-    requires running { Running rows.now f.now first count goes.now u }
+    requires running { Running f.now first count goes.now u }
     requires depth_bound { (s.depth ≤ 8) × (s.pc < 2 ^ 63) }
     ensures { world (memory x.now y.new m.new sm.new t.new d.new tv.new) (open_loops left.new back.new) result ≡ step_of (program_in (records_from f.now first count)) u (world (memory x.now y.old m.old sm.old t.old d.old tv.old) (open_loops left.old back.old) s) }
 {
