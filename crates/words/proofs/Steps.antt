@@ -1,36 +1,19 @@
 -- What the code computes, as the definitions say it. Assumes nothing.
 use mathlib.Core.Path.{◌≡◌, refl, sym, ap, ap₂, ◌∙◌}
-use mathlib.Core.Bool.{false}
 use mathlib.Core.List.{List}
 use Prim.Native.Nat.{ℕ, ◌+◌, ◌*◌, ◌/◌, ◌%◌, ◌^◌, ◌<◌}
-use native.Mathlib.Omega.{arith}
 use lib.Dec.{lit<}
 use lib.IntN.{ℤ, pos, ◌+ℤ◌}
-use lib.Signed.{mag, lt_z}
+use lib.Signed.{mag}
 use mir.Syntax.{w16, w64}
-use mir.Val.{SFits, to_z, of_z}
+use mir.Val.{to_z, of_z}
 use Rattle.ec20.specs.Numbers.{low, signed}
 use Rattle.ec20.specs.Registers.{word_at, pair_at, high_word, low_word}
-use Rattle.ints.proofs.Parts.{add_parts, range-parts, parts-fit, lt_no, said}
+use Rattle.ints.proofs.Parts.{said}
 use Rattle.ints.proofs.TwosLaws.{low-more}
 use Rattle.words.proofs.Laws.{high-word-range, low-word-range, pair-range}
 
--- 2 ^ 32 added to a number of 32 bits
-module _ (z : ℤ) (l : mag z < 2 ^ 31) where
-  -- the sum fits
-  pub raised-fits : SFits w64 (z +ℤ pos 4294967296)
-  raised-fits =
-      let r = range-parts 2147483648 z l in
-      let s = add_parts z (pos 4294967296) in
-      parts-fit w64 (z +ℤ pos 4294967296) (omega arith) (omega arith)
-
-  -- and is a number from 0 up
-  pub raised-plain : lt_z (z +ℤ pos 4294967296) (pos 0) ≡ false
-  raised-plain =
-      let r = range-parts 2147483648 z l in
-      let s = add_parts z (pos 4294967296) in
-      lt_no (z +ℤ pos 4294967296) (pos 0) (omega arith)
-
+-- 2 ^ 32 added to a number of 32 bits:
 -- its low bits are those of the number, for each m that divides 2 ^ 32
 pub raised-low : (m k n : ℕ) {x z : ℤ} → 0 < m → k * m ≡ 4294967296 → pos n ≡ x +ℤ pos 4294967296 → x ≡ z → n % m ≡ low m z
 raised-low m k n {x} {z} h e q same = ap (low m) (q ∙ ap (λ (j : ℕ). x +ℤ pos j) (sym e)) ∙ low-more m x k h ∙ ap (low m) same
