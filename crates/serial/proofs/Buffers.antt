@@ -1,39 +1,23 @@
 -- Bytes that come into a buffer, and that are taken from its front. Assumes nothing.
-use Prim.Native.Nat.{ℕ, suc, ◌+◌, ◌-◌, ◌<◌, ◌≤◌, min}
+use Prim.Native.Nat.{ℕ, ◌+◌, ◌-◌, ◌<◌, ◌≤◌, min}
 use mathlib.Core.List.{List, ◌++◌}
 use mathlib.Core.Path.{◌≡◌, refl, sym, ap, ◌∙◌}
 use native.Mathlib.Omega.{arith}
 use native.Mathlib.Nat.{min-zero}
-use lib.ListN.{length, take, drop, get_or, set, length-drop}
-use lib.Seq.{paste, paste-zero, paste-suc, length_paste_head, get_or-append-add, get_or-drop}
+use borrow.Rule.Slice.PartMut.{put_mid}
+use lib.ListN.{length, take, drop}
+use lib.Seq.{paste, paste-zero}
+use Rattle.std.proofs.lemmas.List.{drop-drop}
+use mathlib.Core.List.{append_assoc}
 use borrow.Author.Tests.{le-leb, lt-leb}
 use Rattle.serial.specs.Held.{room_for, left_of}
 
--- a byte that is not yet moved to the front
-pub moved-read : (b : List ℕ) (k i z : ℕ) → i + k < length b → get_or (paste b 0 (drop k b) i) (i + k) z ≡ get_or (drop k b) i z
-moved-read b k i z l =
-    let h : length (take 0 b ++ take i (drop k b)) ≡ 0 + i = length_paste_head b 0 (drop k b) i (omega arith) (omega (arith, length-drop k b)) in
-    ap (λ (j : ℕ). get_or (paste b 0 (drop k b) i) j z) {x = i + k} {y = length (take 0 b ++ take i (drop k b)) + k} (omega (arith, h))
-    ∙ get_or-append-add (take 0 b ++ take i (drop k b)) (drop (0 + i) b) k z
-    ∙ get_or-drop (0 + i) b k z
-    ∙ ap (λ (j : ℕ). get_or b j z) {x = 0 + i + k} {y = k + i} (omega arith)
-    ∙ sym (get_or-drop k b i z)
-
--- ---- one byte more of a copy, and of what is moved to the front
-
-pub pasted-more : (b t from : List ℕ) (at i : ℕ) → t ≡ paste b at from i → at + i < length b → i < length from → set t (at + i) (get_or from i 0) ≡ paste b at from (i + 1)
-pasted-more b t from at i e l h =
-    ap (λ (s : List ℕ). set s (at + i) (get_or from i 0)) e
-    ∙ paste-suc b at from i 0 l h
-    ∙ ap (λ (j : ℕ). paste b at from j) {x = suc i} {y = i + 1} (omega arith)
-
-pub moved_more : (b t : List ℕ) (k i : ℕ) → t ≡ paste b 0 (drop k b) i → i + k < length b → set t i (get_or t (i + k) 0) ≡ paste b 0 (drop k b) (i + 1)
-moved_more b t k i e l =
-    ap (λ (s : List ℕ). set s i (get_or s (i + k) 0)) e
-    ∙ ap (λ (v : ℕ). set (paste b 0 (drop k b) i) i v) (moved-read b k i 0 l)
-    ∙ ap (λ (j : ℕ). set (paste b 0 (drop k b) i) j (get_or (drop k b) i 0)) {x = i} {y = 0 + i} (omega arith)
-    ∙ paste-suc b 0 (drop k b) i 0 (omega arith) (omega (arith, length-drop k b))
-    ∙ ap (λ (j : ℕ). paste b 0 (drop k b) j) {x = suc i} {y = i + 1} (omega arith)
+-- k bytes are copied to a place
+pub pasted : (b from y : List ℕ) (n k : ℕ) → y ≡ take k from → put_mid n (n + k - n) b y ≡ paste b n from k
+pasted b from y n k e =
+    rw e
+    (ap (λ (t : List ℕ). take n b ++ (take k from ++ t)) (drop-drop (n + k - n) n b ∙ ap (λ (j : ℕ). drop j b) {x = n + (n + k - n)} {y = n + k} (omega arith))
+    ∙ sym (append_assoc (take n b) (take k from) (drop (n + k) b)))
 
 -- ---- how many
 

@@ -1,5 +1,5 @@
 // The bytes that came and are not answered yet: the first n of a buffer.
-ghost use Rattle.std.specs.Prelude.{◌+◌, ◌-◌, ◌<◌, ◌≤◌, min, length, drop, ◌≡◌};
+ghost use Rattle.std.specs.Prelude.{◌+◌, ◌<◌, drop, ◌≡◌};
 ghost use Rattle.serial.specs.Held.{is_read, is_write, told_length, reply_length, others_length, is_whole, frame_of, room_for, left_of};
 ghost use Rattle.std.proofs.Math.Seq.{paste};
 
@@ -87,24 +87,6 @@ pub fn frame(own: usize, b: &[u8], silence: bool) -> usize
     if silence { b.len() } else { 0 }
 }
 
-fn least(a: usize, b: usize) -> usize
-    ensures { (result ≡ min a b) × ((result ≤ a) × (result ≤ b)) }
-{
-    if a < b { a } else { b }
-}
-
-// The first n bytes of one, from index `at` of the other on.
-fn copy(from: &[u8], to: &mut [u8], at: usize, n: usize)
-    requires { (at + n ≤ length to.old) × (n ≤ length from.now) }
-    ensures { to.new ≡ paste to.old at from.now n }
-{
-    let mut i: usize = 0;
-    while i < n {
-        to[at + i] = from[i];
-        i += 1;
-    }
-}
-
 // More bytes after the n that are held. What has no room is lost: a frame that fills the buffer has a length that no function can have. Answers how
 // many are held then.
 pub fn more(b: &mut [u8], n: usize, came: &[u8]) -> usize
@@ -114,21 +96,9 @@ pub fn more(b: &mut [u8], n: usize, came: &[u8]) -> usize
     if n > b.len() {
         return n;
     }
-    let k = least(came.len(), b.len() - n);
-    copy(came, b, n, k);
+    let k = came.len().min(b.len() - n);
+    b[n..n + k].copy_from_slice(&came[..k]);
     n + k
-}
-
-// The bytes from index k on come to the front, so many.
-fn shift(b: &mut [u8], k: usize, left: usize)
-    requires { left + k ≤ length b.old }
-    ensures { b.new ≡ paste b.old 0 (drop k b.old) left }
-{
-    let mut i: usize = 0;
-    while i < left {
-        b[i] = b[i + k];
-        i += 1;
-    }
 }
 
 // The first k of the n bytes held are taken away, and the others come to the front. Answers how many are held then.
@@ -142,6 +112,6 @@ pub fn less(b: &mut [u8], n: usize, k: usize) -> usize
     if k > n {
         return 0;
     }
-    shift(b, k, n - k);
+    b.copy_within(k..n, 0);
     n - k
 }

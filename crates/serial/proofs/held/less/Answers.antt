@@ -18,5 +18,5 @@ returns-then-k-n c =
 pub returns : goal.returns
 returns c =
     let a = c.args in
-    let p = less_done a.n a.k a.b.now c.shift.new.b (omega arith) c.shift.ensures in
+    let p = less_done a.n a.k a.b.now _ (omega arith) c.copy_within.ensures.after in
     record { value = p.0; b_after = p.1 }
