@@ -13,13 +13,15 @@ use Rattle.ec20.specs.Basics.{pick}
 use Rattle.ec20.specs.declared.Operand.{Operand}
 use Rattle.ec20.specs.declared.Place.{Place}
 use Rattle.ec20.specs.declared.Rec.{Rec}
+use Rattle.ec20.specs.declared.Role.{Role}
 use Rattle.ec20.specs.declared.Row.{Row}
 use Rattle.ec20.specs.Devices.{Device, kind_constant, kind_x, kind_y, kind_m, kind_sm, kind_t, kind_d, kind_label, limit_of}
 use Rattle.ec20.specs.Numbers.{signed}
 use Rattle.ec20.specs.Operands.{kind_is, plain, in_range, one_of, constant_of, constant_in, group_in, words_in, is_unused, is_bit_read, is_bit_written, is_source, is_target, allowed}
-use Rattle.ec20.specs.Roles.{place, role_source, role_target, role_changed, role_quotient, unused, bit_read, bit_written, source, target, changed, quotient, timer, units, passes, label}
+use Rattle.ec20.specs.Roles.{place, role_is, role_source, role_target, role_changed, role_quotient, unused, bit_read, bit_written, source, target, changed, quotient, timer, units, passes, label}
 use Rattle.ec20.specs.Table.{table, row_of}
 use Rattle.ec20.proofs.EachRow.{row-test}
+use Rattle.ec20.proofs.Forms.{same_role}
 use Rattle.ec20.proofs.Tests.{both, each, or_right, differ}
 use Rattle.refusals.specs.Admits.{SixZeros, Whole, One, Group, Words, Labelled, StandsFor, as_it_is, less_2_to_32, Constant}
 use Rattle.refusals.specs.Admits.{BitRead, bit_X, bit_Y, bit_M, bit_SM, bit_T, BitWritten, coil_Y, coil_M}
@@ -282,7 +284,7 @@ module _ (v : Device) (o : Operand) where
   of-source-32 (pair z) = or_right (number-32 || grouped 32 || false) (words_in v 2 o) (of_words v o 2 (omega arith) z)
 
   -- a target of w bits and n words, whatever its role
-  target-in : (r w n most : ℕ) → w ≤ 4 * most → is_target v (place r w n) o ≡ true → TargetOf v most n o
+  target-in : (r : Role) (w n most : ℕ) → w ≤ 4 * most → is_target v (place r w n) o ≡ true → TargetOf v most n o
   unfolding is_target limit_of
   target-in r w n most m e =
       or_else (of-YM && group_in v w o) (words_in v n o) e
@@ -292,7 +294,7 @@ module _ (v : Device) (o : Operand) where
       (λ c. onto_M (group v o kind_m most w m c a.1)))
       (λ q. onto_D (words v o n q))
 
-  of-target : (r w n most : ℕ) → 4 * most ≤ w → 1 ≤ n → TargetOf v most n o → is_target v (place r w n) o ≡ true
+  of-target : (r : Role) (w n most : ℕ) → 4 * most ≤ w → 1 ≤ n → TargetOf v most n o → is_target v (place r w n) o ≡ true
   unfolding is_target limit_of
   of-target r w n most m s (onto_Y z) =
       or_left (of-YM && group_in v w o) (words_in v n o) (ap₂ ◌&&◌ (or_left _ (kind_is kind_m o) (eq-eqb _ _ z.kind)) (of-group v o kind_y most w m z))
@@ -371,13 +373,13 @@ module _ (v : Device) (o : Operand) where
 -- ---- the places of the table
 
 unfoldable same : Place → Place → Bool
-same p q = eqb p.role q.role && eqb p.width q.width && eqb p.extent q.extent
+same p q = role_is q.role p && eqb p.width q.width && eqb p.extent q.extent
 
 same_place : (p q : Place) → same p q ≡ true → p ≡ q
 unfolding same
 same_place p q e =
-    let a = each (eqb p.role q.role) (eqb p.width q.width) (eqb p.extent q.extent) e in
-    let x : p.role ≡ q.role = eqb-true _ _ a.0 in
+    let a = each (role_is q.role p) (eqb p.width q.width) (eqb p.extent q.extent) e in
+    let x : p.role ≡ q.role = same_role _ _ (eqb-true _ _ a.0) in
     let y : p.width ≡ q.width = eqb-true _ _ a.1 in
     let z : p.extent ≡ q.extent = eqb-true _ _ a.2 in
     λ i. record { role = x i; width = y i; extent = z i }

@@ -8,6 +8,7 @@ use native.Mathlib.Decide.{dec_le, ℕ_discrete}
 use native.Mathlib.Omega.{arith}
 use lib.Dec.{leb, ltb, eqb}
 use borrow.Author.Tests.{leb-true, ltb-true, lt-ltb, eqb-true, eqb-false, eq-eqb}
+use Rattle.ec20.specs.declared.Form.{Form}
 use Rattle.ec20.specs.declared.Instr.{Instr}
 use Rattle.ec20.specs.declared.Instr.TheVariants.{Nop, Contact, Compare, Join, Branch, Coil, Timer, For, Next, Jump, Label, End, Word}
 use Rattle.ec20.specs.declared.Rec.{Rec}
@@ -42,7 +43,7 @@ Formed End = Unit {0}
 Formed (Word n a b t) = 32 ≤ n
 
 -- the numbers that a form has in the table
-abbrev fits : ℕ → ℕ → Bool
+abbrev fits : Form → ℕ → Bool
 fits form n =
     pick (form_is form form_contact) (leb 1 n && leb n 6)
     (pick (form_is form form_join) (leb 7 n && leb n 8)
@@ -71,7 +72,7 @@ in_both false x y a b f g e = g e
 within : (a n b : ℕ) → (leb a n && leb n b) ≡ true → (a ≤ n) × (n ≤ b)
 within a n b e = let q = both (leb a n) (leb n b) e in (leb-true _ _ q.0, leb-true _ _ q.1)
 
-formed-by : (form : ℕ) (r : Rec) → fits form r.number ≡ true → Formed (instr_by form r)
+formed-by : (form : Form) (r : Rec) → fits form r.number ≡ true → Formed (instr_by form r)
 unfolding instr_by
 formed-by form r =
     let n : ℕ = r.number in
@@ -99,7 +100,7 @@ formed f k =
     picked Formed (ltb k (records_of f).count) _ _ (λ _. formed-by (row_of r.number).form r (row_fits r.number)) (λ _. tt)
 
 -- and the number of the instruction that a known record makes is the record's own
-abbrev numbered : ℕ → ℕ → ℕ
+abbrev numbered : Form → ℕ → ℕ
 numbered form n =
     pick (form_is form form_contact) n
     (pick (form_is form form_join) n
@@ -121,7 +122,7 @@ either_way : (t : Bool) (x y : Instr) (a b : ℕ) → number_of x ≡ a → numb
 either_way true x y a b e f = e
 either_way false x y a b e f = f
 
-number_by : (form : ℕ) (r : Rec) → number_of (instr_by form r) ≡ numbered form r.number
+number_by : (form : Form) (r : Rec) → number_of (instr_by form r) ≡ numbered form r.number
 unfolding instr_by
 number_by form r =
     either_way (form_is form form_contact) _ _ _ _ refl
