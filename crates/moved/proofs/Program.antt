@@ -2,10 +2,12 @@
 use Prim.Native.Nat.{ℕ, ◌<◌}
 use mathlib.Core.Bool.{Bool, true, false}
 use mathlib.Core.Path.{◌≡◌, refl, sym, ap, ap₂, fun_ext, ◌∙◌}
-use lib.Dec.{ltb, eqb}
-use borrow.Author.Tests.{ltb-true, eqb-true}
+use lib.Dec.{ltb}
+use borrow.Author.Tests.{ltb-true}
+use Rattle.ec20.proofs.Forms.{form_is-true}
 use Rattle.ec20.proofs.Tests.{differ, picked}
 use Rattle.ec20.specs.Basics.{pick}
+use Rattle.ec20.specs.declared.Form.{Form}
 use Rattle.ec20.specs.declared.Instr.{Instr}
 use Rattle.ec20.specs.declared.Operand.{Operand}
 use Rattle.ec20.specs.declared.Place.{Place}
@@ -59,12 +61,12 @@ module _ {v : Device} {rs : Records} {b : Block} {q : ℕ} (pl : Placed v rs b q
   fits : {p : Place} {o : Operand} → OperandAt r p o → Fit v b q p o
   fits at = fit pl k h at
 
-  abbrev form : ℕ
+  abbrev form : Form
   form = (row_of r.number).form
 
   -- the first operand of a form that has a bit, passes or a label there
-  first-same : (i : ℕ) → eqb form i ≡ true → has_bare i ≡ true → rename_operand σ r.first ≡ r.first
-  first-same i e y = bare-same two (fits first) (bare-first r.number (ap has_bare (eqb-true form i e) ∙ y))
+  first-same : (i : Form) → form_is form i ≡ true → has_bare i ≡ true → rename_operand σ r.first ≡ r.first
+  first-same i e y = bare-same two (fits first) (bare-first r.number (ap has_bare (form_is-true form i e) ∙ y))
 
   timer-same : form_is form form_timer ≡ true → (rename_operand σ r.first ≡ r.first) × (rename_operand σ r.second ≡ r.second)
   timer-same e =

@@ -2,12 +2,13 @@
 use Prim.Native.Nat.{ℕ, ◌*◌, ◌≤◌}
 use mathlib.Core.Bool.{Bool, true, false, not, ◌&&◌, ◌||◌}
 use mathlib.Core.Path.{◌≡◌, refl}
-use lib.Dec.{leb, eqb}
+use lib.Dec.{leb}
 use borrow.Author.Tests.{leb-true, not-true}
 use Rattle.ec20.proofs.EachRow.{every, row-test}
 use Rattle.ec20.proofs.InD.{is_word}
 use Rattle.ec20.proofs.Tests.{both, each, implied}
 use Rattle.ec20.specs.Basics.{pick}
+use Rattle.ec20.specs.declared.Form.{Form}
 use Rattle.ec20.specs.declared.Place.{Place}
 use Rattle.ec20.specs.declared.Row.{Row}
 use Rattle.ec20.specs.Table.{table, unknown, row_of}
@@ -17,10 +18,10 @@ use Rattle.ec20.specs.Words.{is}
 use Rattle.moving.specs.Rename.{words_of, written_by}
 
 -- of the rows of one form
-abbrev of-form : ℕ → (ℕ → Row → Bool) → ℕ → Row → Bool
+abbrev of-form : Form → (ℕ → Row → Bool) → ℕ → Row → Bool
 of-form form test n w = not (form_is w.form form) || test n w
 
-form-test : (form : ℕ) (test : ℕ → Row → Bool) → ((n : ℕ) → of-form form test n unknown ≡ true) → every (of-form form test) 0 table ≡ true
+form-test : (form : Form) (test : ℕ → Row → Bool) → ((n : ℕ) → of-form form test n unknown ≡ true) → every (of-form form test) 0 table ≡ true
     → (n : ℕ) → form_is (row_of n).form form ≡ true → test n (row_of n) ≡ true
 form-test form test u e n = implied (form_is (row_of n).form form) (test n (row_of n)) (row-test (of-form form test) u e n)
 
@@ -30,7 +31,7 @@ abbrev bare : Place → Bool
 bare p = not (is_word p)
 
 -- a form whose first operand is a bit, the passes or a label
-abbrev pub has_bare : ℕ → Bool
+abbrev pub has_bare : Form → Bool
 has_bare form = form_is form form_contact || form_is form form_coil || form_is form form_for || form_is form form_jump || form_is form form_label
 
 abbrev bare_first : ℕ → Row → Bool
