@@ -11,8 +11,8 @@ ghost use Rattle.torn.specs.Kept.{passes as pass, kept_of};
 ghost use Rattle.torn.specs.Salvage.{records_in, size_for, file_with, saved, salvage_of};
 
 use ec20::Refusal;
-use torn::{Kept, Saved};
 use instructions::RowTable;
+use torn::{Kept, Saved};
 
 // Whether the record at byte i is refused by neither 2 nor 3: the checker's search for the first bad record, of this one alone, tells 4 only where these two
 // do not hold. (The checker's test of one record, called from here too, would no longer be put into that search, and a check took 1.4 times as long.)
