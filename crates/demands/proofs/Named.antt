@@ -10,12 +10,15 @@ use lib.IntN.{pos, neg_ℤ}
 use lib.ListN.{length}
 use borrow.Author.Tests.{eqb-true, leb-true, ltb-true}
 use Rattle.ec20.proofs.EachRow.{every, row-test}
+use Rattle.ec20.proofs.Forms.{same_role}
 use Rattle.ec20.proofs.Laws.{no-fault}
 use Rattle.ec20.proofs.NoFault.{accepted-records, record-fine}
 use Rattle.ec20.proofs.Tests.{both, each, either, three, differ, implied, picked}
+use Rattle.ec20.specs.declared.Form.{Form}
 use Rattle.ec20.specs.declared.Operand.{Operand}
 use Rattle.ec20.specs.declared.Place.{Place}
 use Rattle.ec20.specs.declared.Rec.{Rec}
+use Rattle.ec20.specs.declared.Role.{Role}
 use Rattle.ec20.specs.declared.Row.{Row}
 use Rattle.ec20.specs.Verdict.{Accepted}
 use Rattle.ec20.specs.Basics.{pick}
@@ -53,7 +56,7 @@ writes n w p =
     && eqb p.extent (pick (is n DIV DDIV) (2 * words_of w.first.width) (words_of w.first.width))
 
 -- a rule for the rows of one form
-module _ (form : ℕ) (test : ℕ → Row → Bool) where
+module _ (form : Form) (test : ℕ → Row → Bool) where
   abbrev rule : ℕ → Row → Bool
   rule n w = not (form_is w.form form) || test n w
 
@@ -93,38 +96,39 @@ one-row = of-form form_one (λ n w. writes n w w.first) (λ n. refl) refl
 -- ---- what is allowed at a place, by its role
 
 module _ (v : Device) (p : Place) (o : Operand) where
-  abbrev Of : ℕ → Place
+  abbrev Of : Role → Place
   Of r = record { role = r; width = p.width; extent = p.extent }
 
-  by-role : (r : ℕ) (test : Place → Bool) → allowed v (Of r) o ≡ test (Of r) → p.role ≡ r → allowed v p o ≡ true → test p ≡ true
-  by-role r test h e a =
-      subst (λ (i : ℕ). test (Of i) ≡ true) (sym e) (sym h ∙ subst (λ (i : ℕ). allowed v (Of i) o ≡ true) e a)
+  by-role : (r : Role) (test : Place → Bool) → allowed v (Of r) o ≡ test (Of r) → role_is r p ≡ true → allowed v p o ≡ true → test p ≡ true
+  by-role r test h t a =
+      let e : p.role ≡ r = same_role _ _ (eqb-true _ _ t) in
+      subst (λ (i : Role). test (Of i) ≡ true) (sym e) (sym h ∙ subst (λ (i : Role). allowed v (Of i) o ≡ true) e a)
 
-  at_bit_read : p.role ≡ role_bit_read → allowed v p o ≡ true → is_bit_read v o ≡ true
+  at_bit_read : role_is role_bit_read p ≡ true → allowed v p o ≡ true → is_bit_read v o ≡ true
   unfolding allowed
   at_bit_read = by-role role_bit_read (λ _. is_bit_read v o) (simp or-false)
 
-  at_bit_written : p.role ≡ role_bit_written → allowed v p o ≡ true → is_bit_written v o ≡ true
+  at_bit_written : role_is role_bit_written p ≡ true → allowed v p o ≡ true → is_bit_written v o ≡ true
   unfolding allowed
   at_bit_written = by-role role_bit_written (λ _. is_bit_written v o) (simp or-false)
 
-  at_source : p.role ≡ role_source → allowed v p o ≡ true → is_source v p o ≡ true
+  at_source : role_is role_source p ≡ true → allowed v p o ≡ true → is_source v p o ≡ true
   unfolding allowed
   at_source = by-role role_source (λ q. is_source v q o) (simp or-false)
 
-  at_target : p.role ≡ role_target → allowed v p o ≡ true → is_target v p o ≡ true
+  at_target : role_is role_target p ≡ true → allowed v p o ≡ true → is_target v p o ≡ true
   unfolding allowed
   at_target = by-role role_target (λ q. is_target v q o) (simp or-false)
 
-  at-changed : p.role ≡ role_changed → allowed v p o ≡ true → is_target v p o ≡ true
+  at-changed : role_is role_changed p ≡ true → allowed v p o ≡ true → is_target v p o ≡ true
   unfolding allowed
   at-changed = by-role role_changed (λ q. is_target v q o) (simp or-false)
 
-  at_quotient : p.role ≡ role_quotient → allowed v p o ≡ true → words_in v p.extent o ≡ true
+  at_quotient : role_is role_quotient p ≡ true → allowed v p o ≡ true → words_in v p.extent o ≡ true
   unfolding allowed
   at_quotient = by-role role_quotient (λ q. words_in v q.extent o) (simp or-false)
 
-  at_timer : p.role ≡ role_timer → allowed v p o ≡ true → one_of v kind_t o ≡ true
+  at_timer : role_is role_timer p ≡ true → allowed v p o ≡ true → one_of v kind_t o ≡ true
   unfolding allowed
   at_timer = by-role role_timer (λ _. one_of v kind_t o) (simp or-false)
 
@@ -274,7 +278,7 @@ module _ (v : Device) (full : Filled v) (c : Memory) (s : Sizes v c) where
     reads-source : (w : Row) (p : Place) → reads w p ≡ true → allowed v p o ≡ true → Source w.first.width c o
     reads-source w p r a =
         let q = each (role_is role_source p) (eqb p.width w.first.width) (eqb p.extent (words_of w.first.width)) r in
-        source p w.first.width (eqb-true _ _ q.1) (eqb-true _ _ q.2) (at_source v p o (eqb-true _ _ q.0) a)
+        source p w.first.width (eqb-true _ _ q.1) (eqb-true _ _ q.2) (at_source v p o q.0 a)
 
     writes-target : (n : ℕ) (p : Place) → writes n (row_of n) p ≡ true → allowed v p o ≡ true → Target n c o
     writes-target n p r a = go (is n DIV DDIV) refl q.0
@@ -285,12 +289,12 @@ module _ (v : Device) (full : Filled v) (c : Memory) (s : Sizes v c) where
         q = each _ (eqb p.width (width_of n)) (eqb p.extent (written_by n)) r
 
         go : (t : Bool) → is n DIV DDIV ≡ t → pick t (role_is role_quotient p) (role_is role_target p || role_is role_changed p) ≡ true → Target n c o
-        go true h e = to_words (words p.extent (written_by n) (eqb-true _ _ q.2) (at_quotient v p o (eqb-true _ _ e) a))
+        go true h e = to_words (words p.extent (written_by n) (eqb-true _ _ q.2) (at_quotient v p o e a))
         go false h e =
             target n p (eqb-true _ _ q.1) (eqb-true _ _ q.2) h
             (elim (either (role_is role_target p) (role_is role_changed p) e) [
-              | inl z ↦ at_target v p o (eqb-true _ _ z) a
-              | inr z ↦ at-changed v p o (eqb-true _ _ z) a
+              | inl z ↦ at_target v p o z a
+              | inr z ↦ at-changed v p o z a
             ])
 
     -- a "target, also read" is a source too
@@ -314,11 +318,11 @@ module _ (v : Device) (full : Filled v) (c : Memory) (s : Sizes v c) where
       let o2 = all-allowed v r ok second in
       let o3 = all-allowed v r ok third in
       picked (Named c) (form_is f form_contact) _ _
-      (λ q. bit-read r.first (at_bit_read v w.first r.first (eqb-true _ _ (contact-row n q)) o1))
+      (λ q. bit-read r.first (at_bit_read v w.first r.first (contact-row n q) o1))
       (λ _. picked (Named c) (form_is f form_join) _ _ (λ _. tt)
       (λ _. picked (Named c) (form_is f form_branch) _ _ (λ _. tt)
       (λ _. picked (Named c) (form_is f form_coil) _ _
-      (λ q. bit-written r.first (at_bit_written v w.first r.first (eqb-true _ _ (coil-row n q)) o1))
+      (λ q. bit-written r.first (at_bit_written v w.first r.first (coil-row n q) o1))
       (λ _. picked (Named c) (form_is f form_compare) _ _
       (λ q.
       let t = each (reads w w.first) (reads w w.second) (eqb w.first.width 16) (compare-row n q) in
@@ -327,7 +331,7 @@ module _ (v : Device) (full : Filled v) (c : Memory) (s : Sizes v c) where
         subst (λ (k : ℕ). Source k c r.second) z (reads-source r.second w w.second t.1 o2),
       ))
       (λ _. picked (Named c) (form_is f form_timer) _ _
-      (λ q. timer r.first (at_timer v w.first r.first (eqb-true _ _ (timer-row n q)) o1))
+      (λ q. timer r.first (at_timer v w.first r.first (timer-row n q) o1))
       (λ _. picked (Named c) (form_is f form_for) _ _ (λ _. tt)
       (λ _. picked (Named c) (form_is f form_next) _ _ (λ _. tt)
       (λ _. picked (Named c) (form_is f form_jump) _ _ (λ _. tt)
