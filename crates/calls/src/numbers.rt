@@ -21,7 +21,7 @@ fn digit(byte: u8) -> Option<u32>
 }
 
 // What one decimal digit or more, and nothing else, stands for, where it fits.
-fn parsed(text: &[u8]) -> Option<u32>
+pub fn parsed(text: &[u8]) -> Option<u32>
     ensures { result ≡ number_in text.now }
 {
     if text.is_empty() {

@@ -61,7 +61,7 @@ pub fn show(mut out: Descriptor, read: &[u8; 1000], written: &[u8; 1000]) -> fmt
     write!(
         out,
         ". free   r read   w written   b read and written   # WORK, free
-      +0         +10        +20        +30        +40        +50        +60        +70        +80        +90
+       +0         +10        +20        +30        +40        +50        +60        +70        +80        +90
 "
     )?;
     let mut first = 0;
