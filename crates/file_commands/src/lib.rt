@@ -1,5 +1,5 @@
-// The commands that make no scan: check, map, move, exchange, answer and salvage. Each is handed the system, a call and two descriptors: `out` for the answer, `err` for what a
-// refusal means and what could not be tried. Nothing is promised beyond safety.
+// The commands that make no scan: check, map, move, exchange, answer and salvage. Each is handed the system, a call and where to write. Nothing is promised
+// beyond safety.
 #![tactic(auto)]
 
 mod answers;
@@ -9,8 +9,10 @@ mod map;
 mod moves;
 mod salvages;
 
-use calls::asked;
+use calls::names::Command;
+use calls::output::Outputs;
 use calls::results::Outcome;
+use calls::{asked, results};
 use std::random::RandomSource;
 use std::rt::Files;
 use telling::report;
@@ -18,31 +20,19 @@ use telling::report;
 // The command; a call that asks for none of them is told how to call.
 pub fn run(
     rt: &(impl Files + RandomSource),
-    command: usize,
+    command: Option<Command>,
     call: &[u8],
-    out: i32,
-    err: i32,
+    to: Outputs,
 ) -> Outcome {
-    if command == asked::CHECK {
-        return judge::run(rt, call, out, err);
-    }
-    if command == asked::MAP {
-        return map::run(rt, call, 1, false, out, err);
-    }
-    if command == asked::PICTURE {
-        return map::run(rt, call, 2, true, out, err);
-    }
-    if command == asked::MOVE {
-        return moves::run(rt, call, out, err);
-    }
-    if command == asked::EXCHANGE {
-        return exchanges::run(rt, call, out, err);
-    }
-    if command == asked::ANSWER {
-        return answers::run(rt, call, out, err);
-    }
-    if asked::salvages(call) {
-        return salvages::run(rt, call, out, err);
-    }
-    report::usage(err)
+    let tried = match command {
+        Some(Command::Check) => judge::run(rt, call, to),
+        Some(Command::Map) => map::run(rt, call, 1, false, to),
+        Some(Command::Picture) => map::run(rt, call, 2, true, to),
+        Some(Command::Move) => moves::run(rt, call, to),
+        Some(Command::Exchange) => exchanges::run(rt, call, to),
+        Some(Command::Answer) => answers::run(rt, call, to),
+        _ if asked::salvages(call) => salvages::run(rt, call, to),
+        _ => return report::usage(to.err),
+    };
+    tried.unwrap_or(results::not_tried())
 }

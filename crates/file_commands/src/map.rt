@@ -1,26 +1,26 @@
 // map FILE: which D words a program reads and which it writes, as runs or as a picture.
-use calls::results::Outcome;
+use calls::output::Outputs;
+use calls::results::{Outcome, Status, Tried};
 use calls::{files, results, text};
-use ec20::Mapped;
+use ec20::UseMap;
+use std::fmt;
 use std::rt::Files;
 use telling::{picture, report, spans};
 
-fn show(m: Mapped, pictured: bool, out: i32) -> i32 {
+fn show(m: UseMap, pictured: bool, to: Outputs) -> fmt::Result {
     let read = m.read;
     let written = m.written;
     if pictured {
-        return picture::show(out, &read, &written);
+        return picture::show(to.out, &read, &written);
     }
-    spans::show(out, &read, &written)
+    spans::show(to.out, &read, &written)
 }
 
-fn tell(path: &[u8], file: &[u8], pictured: bool, out: i32, err: i32) -> Outcome {
-    let m = usemap::use_map(file);
-    if m.number != 0 {
-        return report::refused(path, file, m.number, m.at, out, err);
+fn tell(path: &[u8], file: &[u8], pictured: bool, to: Outputs) -> Outcome {
+    match usemap::use_map(file) {
+        Ok(m) => results::answered(Status::Answered, false, show(m, pictured, to), to.err),
+        Err(refusal) => report::refused(path, file, refusal, to),
     }
-    let to = show(m, pictured, out);
-    results::answered(0, false, to, err)
 }
 
 // The map, or the picture of it, of the file that word `word` names. A longer file than the buffer holds is refused by 1, as for check.
@@ -29,15 +29,10 @@ pub fn run(
     call: &[u8],
     word: usize,
     pictured: bool,
-    out: i32,
-    err: i32,
-) -> Outcome {
+    to: Outputs,
+) -> Tried<Outcome> {
     let path = text::word(call, word);
     let mut buf = io::large_buffer();
-    let loaded = files::load(rt, path, err, &mut buf);
-    let n = loaded.n;
-    if loaded.whole {
-        return tell(path, &buf[..n], pictured, out, err);
-    }
-    results::not_tried()
+    let n = files::load(rt, path, to.err, &mut buf)?;
+    Ok(tell(path, &buf[..n], pictured, to))
 }
