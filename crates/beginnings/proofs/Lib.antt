@@ -2,4 +2,3 @@
 pub mod ChangeLaws
 pub mod PartLaws
 pub mod PlaceLaws
-pub mod StatusLaws

@@ -1,3 +1,4 @@
--- What a trial asks for, and what a move changed.
+-- What a scan and a trial ask for, and what a move changed.
 pub mod Changes
+pub mod Scans
 pub mod Tried
