@@ -1,60 +1,59 @@
 // job FILE JOB [MEMORY]: the blocks that a job's lines name, each moved to its place in the program file, and their words exchanged in the memory file. It
-// is handed the system, a call and two descriptors: `out` for the answer, `err` for what a refusal means and what could not be tried. What a job does is promised of the
-// crates job_texts, job_moves and memory_jobs; here nothing is beyond safety.
+// is handed the system, a call and where to write. What a job does is promised of the crates job_texts, job_moves and memory_jobs; here nothing is beyond
+// safety.
 #![tactic(auto)]
 
 mod told;
 
-ghost use Rattle.std.specs.Prelude.{◌≡◌, ◌==◌};
+ghost use Rattle.std.specs.Prelude.{◌≡◌, ◌==◌, Some};
+ghost use Rattle.calls.specs.Asked.{number_of_command};
 
-use calls::results::Outcome;
-use calls::{asked, files, results, text};
-use jobs::Jobbed;
+use calls::files::Unreplaced;
+use calls::names::Command;
+use calls::output::Outputs;
+use calls::results::{Outcome, Tried};
+use calls::{files, results, text};
+use jobs::JobRefusal;
 use memories::tables;
 use std::random::RandomSource;
 use std::rt::Files;
 
 // Whether the command is this one.
-pub fn knows(command: usize) -> bool
-    ensures { result ≡ (command == 11) }
+pub fn knows(command: Command) -> bool
+    ensures { result ≡ (number_of_command (Some command) == 11) }
 {
-    command == asked::JOB
+    command == Command::Job
 }
 
-// The memory file: whether the call names one, and how many bytes it has.
-#[derive(Clone, Copy)]
-pub struct Memory {
-    pub given: bool,
-    pub size: usize,
-}
-
-// The job over the program, and over the memory of the image where one is given: one of another size is refused by 9, after 16 and 1 to 8.
-fn answer(file: &mut [u8], image: &mut [u8; 16892], m: Memory, lines: &[[u32; 3]]) -> Jobbed {
-    if m.given & (m.size == 16892) {
-        return memory_jobs::in_image(file, image, lines);
+// The job over the program, and over the memory of the image where the call names a memory file, of so many bytes: one of another size is refused by 9,
+// after 16 and 1 to 8.
+fn answer(
+    file: &mut [u8],
+    image: &mut [u8; 16892],
+    memory: Option<usize>,
+    lines: &[[u32; 3]],
+) -> Result<usize, JobRefusal> {
+    match memory {
+        Some(16892) => memory_jobs::in_image(file, image, lines),
+        Some(_) => memory_jobs::alone(file, false, lines),
+        None => memory_jobs::alone(file, true, lines),
     }
-    memory_jobs::alone(file, !m.given, lines)
 }
 
-// The files are replaced. Answers 0 where all are, 1 where the memory file alone could not be, 2 where none is.
+// The files are replaced.
 fn replace(
     rt: &(impl Files + RandomSource),
     call: &[u8],
     file: &[u8],
     image: &[u8; 16892],
-    given: bool,
-    err: i32,
-) -> usize {
+    memory: Option<usize>,
+    to: Outputs,
+) -> Result<(), Unreplaced> {
     let path = text::word(call, 1);
-    if given {
-        let n = files::replace_two(rt, path, file, text::word(call, 3), image, err);
-        return std::num::wrapping_sub_usize(2, n);
+    if memory.is_some() {
+        return files::replace_two(rt, path, file, text::word(call, 3), image, to.err);
     }
-    if files::replace(rt, path, file, err) {
-        0
-    } else {
-        2
-    }
+    Ok(files::replace(rt, path, file, to.err)?)
 }
 
 // The answer is told once the files are replaced.
@@ -63,16 +62,15 @@ fn tell(
     call: &[u8],
     file: &[u8],
     image: &[u8; 16892],
-    m: Memory,
+    memory: Option<usize>,
     lines: &[[u32; 3]],
     moves: usize,
-    out: i32,
-    err: i32,
+    to: Outputs,
 ) -> Outcome {
-    match replace(rt, call, file, image, m.given, err) {
-        0 => told::done(lines, moves, out, err),
-        1 => told::half(err),
-        _ => results::not_tried(),
+    match replace(rt, call, file, image, memory, to) {
+        Ok(()) => told::done(lines, moves, to),
+        Err(Unreplaced::Second) => told::half(to.err),
+        Err(Unreplaced::Both) => results::not_tried(),
     }
 }
 
@@ -82,79 +80,37 @@ fn run_lines(
     call: &[u8],
     file: &mut [u8],
     image: &mut [u8; 16892],
-    m: Memory,
+    memory: Option<usize>,
     lines: &[[u32; 3]],
-    out: i32,
-    err: i32,
+    to: Outputs,
 ) -> Outcome {
-    match answer(file, image, m, lines) {
-        Jobbed::Refused {
-            number,
-            record,
-            line,
-            other,
-        } => {
-            let r = told::Refusal {
-                number,
-                record,
-                line,
-                other,
-            };
-            told::refused(call, file, m.size, lines, r, out, err)
-        }
-        Jobbed::Done { moves } => tell(rt, call, file, image, m, lines, moves, out, err),
+    match answer(file, image, memory, lines) {
+        Ok(moves) => tell(rt, call, file, image, memory, lines, moves, to),
+        Err(refusal) => told::refused(call, file, memory.unwrap_or(0), lines, refusal, to),
     }
 }
 
-// The job is the first n lines of the room for them; one that has more is refused by 16.
-fn run_first(
-    rt: &(impl Files + RandomSource),
-    call: &[u8],
-    file: &mut [u8],
-    image: &mut [u8; 16892],
-    m: Memory,
-    lines: &[[u32; 3]],
-    n: usize,
-    out: i32,
-    err: i32,
-) -> Outcome {
-    if n > lines.len() {
-        return told::too_long(text::word(call, 2), out, err);
-    }
-    run_lines(rt, call, file, image, m, &lines[..n], out, err)
-}
-
-// Every line is read before anything else is judged.
+// Every line is read before anything else is judged. A job that has more lines than there is room for is refused by 16.
 fn judge(
     rt: &(impl Files + RandomSource),
     call: &[u8],
     job: &[u8],
     file: &mut [u8],
     image: &mut [u8; 16892],
-    m: Memory,
-    out: i32,
-    err: i32,
+    memory: Option<usize>,
+    to: Outputs,
 ) -> Outcome {
+    let path = text::word(call, 2);
     let mut lines = job_texts::room();
     let read = job_texts::read(job, &mut lines);
-    if !read.good {
-        return told::misspelt(text::word(call, 2), read.line, out, err);
+    if let Err(refusal) = read.fault {
+        return told::misspelt(path, refusal, to);
     }
-    run_first(rt, call, file, image, m, &lines, read.count, out, err)
-}
-
-fn run_loaded(
-    rt: &(impl Files + RandomSource),
-    call: &[u8],
-    job: &[u8],
-    file: &mut [u8],
-    image: &mut [u8; 16892],
-    m: Memory,
-    out: i32,
-    err: i32,
-) -> Outcome {
-    let n = files::kept(job);
-    judge(rt, call, &job[..n], file, image, m, out, err)
+    let n = read.count;
+    if n > lines.len() {
+        return told::too_long(path, to);
+    }
+    run_lines(rt, call, file, image, memory, &lines[..n], to)
 }
 
 // The memory file, if one is named, is read. A longer one than the buffer holds is refused by 9, as each of another size is.
@@ -163,44 +119,28 @@ fn run_over(
     call: &[u8],
     job: &[u8],
     file: &mut [u8],
-    out: i32,
-    err: i32,
-) -> Outcome {
+    to: Outputs,
+) -> Tried<Outcome> {
     let mut image = tables::image();
     if text::count(call) != 4 {
-        let none = Memory {
-            given: false,
-            size: 0,
-        };
-        return run_loaded(rt, call, job, file, &mut image, none, out, err);
+        return Ok(judge(rt, call, job, file, &mut image, None, to));
     }
     let mut memory = io::large_buffer();
-    let loaded = files::load(rt, text::word(call, 3), err, &mut memory);
-    if !loaded.whole {
-        return results::not_tried();
-    }
+    let size = files::load(rt, text::word(call, 3), to.err, &mut memory)?;
     tables::start(&memory, &mut image);
-    let m = Memory {
-        given: true,
-        size: loaded.n,
-    };
-    run_loaded(rt, call, job, file, &mut image, m, out, err)
+    Ok(judge(rt, call, job, file, &mut image, Some(size), to))
 }
 
 // All files are read before anything is judged. A longer program than the buffer holds is refused by 1, as for check, so that no part of a file is ever
 // written back.
-pub fn run(rt: &(impl Files + RandomSource), call: &[u8], out: i32, err: i32) -> Outcome {
+fn run_named(rt: &(impl Files + RandomSource), call: &[u8], to: Outputs) -> Tried<Outcome> {
     let mut job = io::large_buffer();
-    let lines = files::load(rt, text::word(call, 2), err, &mut job);
-    let n = lines.n;
-    if !lines.whole {
-        return results::not_tried();
-    }
+    let n = files::load(rt, text::word(call, 2), to.err, &mut job)?;
     let mut file = io::large_buffer();
-    let program = files::load(rt, text::word(call, 1), err, &mut file);
-    let m = program.n;
-    if !program.whole {
-        return results::not_tried();
-    }
-    run_over(rt, call, &job[..n], &mut file[..m], out, err)
+    let m = files::load(rt, text::word(call, 1), to.err, &mut file)?;
+    run_over(rt, call, files::kept(&job[..n]), &mut file[..m], to)
+}
+
+pub fn run(rt: &(impl Files + RandomSource), call: &[u8], to: Outputs) -> Outcome {
+    run_named(rt, call, to).unwrap_or(results::not_tried())
 }
