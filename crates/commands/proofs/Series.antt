@@ -8,10 +8,12 @@ use native.Mathlib.Omega.{arith}
 use lib.IntN.{ℤ}
 use lib.ListN.{length, take}
 use Rattle.std.specs.Prelude.{Err}
+use Rattle.calls.specs.declared.results.Status.TheVariants.{Answered, Refused, NotTried}
+use Rattle.calls.specs.declared.results.Status.{Status}
 use Rattle.demands.specs.Demand3.{with_exchange}
 use Rattle.ec20.proofs.Tests.{differ}
 use Rattle.ec20.specs.Exchanged.{Exchanged}
-use Rattle.ec20.specs.Exchanged.{Done, Refused}
+use Rattle.ec20.specs.Exchanged.{Done, Refused as NotExchanged}
 use Rattle.ec20.specs.Judged.{Judged}
 use Rattle.ec20.specs.Judged.{Fine, Fault}
 use Rattle.ec20.specs.Devices.{ec20}
@@ -69,7 +71,7 @@ granted w f g m d h = exchange-done (taken ec20 f (block w.start w.length) m.in_
 abbrev ExchangesIn : Way → List ℕ → Exchanged → List ℕ → Type 0
 ExchangesIn w x r x' =
     let e = exchange_in 16892 (block w.start w.length) w.place (plant_of x) in
-    (r ≡ e.answer) × ((plant_of x' ≡ e.plant) × ((x' ≡ image_of e.plant) × ((m k : ℕ) → r ≡ Refused m k → x' ≡ x)))
+    (r ≡ e.answer) × ((plant_of x' ≡ e.plant) × ((x' ≡ image_of e.plant) × ((m k : ℕ) → r ≡ NotExchanged m k → x' ≡ x)))
 
 -- with other D words
 abbrev with-words : Plant → List ℤ → Plant
@@ -87,8 +89,8 @@ exchanged-in w f g x (Err r) m h =
     h.1.0 ∙ ap (λ (e : Exchange). with-words p e.words) (granted w f g m p.mem.d (plant-sizes x size).d)
 
 -- so a trial does not end in 'found to differ'
-pub not-one : {s : ℕ} → (s ≡ 0) ⊎ (s ≡ 2) → s ≡ 1 → ⊥
-not-one h e = ⊎_elim (λ q. omega (arith, e, q)) (λ q. omega (arith, e, q)) h
+pub not-refused : {s : Status} → (s ≡ Answered) ⊎ (s ≡ NotTried) → s ≡ Refused → ⊥
+not-refused h e = ⊎_elim (λ q. cc) (λ q. cc) h
 
 -- both programs at the start of their buffers, from byte 0 on
 pub moved-parts : (w : Way) (f g : List ℕ) (k : ℕ) → MovedIn w (take k f) (take k g) → MovedIn w (take (k - 0) f) (take (k - 0) g)

@@ -6,29 +6,32 @@
 mod scan;
 mod trial;
 
-ghost use Rattle.std.specs.Prelude.{◌≡◌, ◌||◌, ◌==◌};
+ghost use Rattle.std.specs.Prelude.{◌≡◌, ◌||◌, ◌==◌, Some};
+ghost use Rattle.calls.specs.Asked.{number_of_command};
 
-use calls::asked;
+use calls::names::Command;
+use calls::output::Outputs;
+use calls::results;
 use calls::results::Outcome;
 use std::random::RandomSource;
 use std::rt::Files;
 
 // Whether the command is one of these.
-pub fn scans(command: usize) -> bool
-    ensures { result ≡ (command == 4 || command == 5 || command == 6) }
+pub fn scans(command: Command) -> bool
+    ensures { result ≡ (number_of_command (Some command) == 4 || number_of_command (Some command) == 5 || number_of_command (Some command) == 6) }
 {
-    (command == asked::SCAN) | (command == asked::TRIAL) | (command == asked::DEMO)
+    matches!(command, Command::Scan | Command::Trial | Command::Demo)
 }
 
 pub fn run(
     rt: &(impl Files + RandomSource),
-    command: usize,
+    command: Command,
     call: &[u8],
-    out: i32,
-    err: i32,
+    to: Outputs,
 ) -> Outcome {
-    if command == asked::SCAN {
-        return scan::run(rt, call, out, err);
-    }
-    trial::run(rt, command, call, out, err)
+    let tried = match command {
+        Command::Scan => scan::run(rt, call, to),
+        _ => trial::run(rt, command, call, to),
+    };
+    tried.unwrap_or(results::not_tried())
 }

@@ -1,5 +1,6 @@
 // trial OLD START LENGTH POOLSTART POOLEND MEMORY SCANS: a move tried out in memory. Old and new program run side by side for so many scans, and
 // what they answer and leave is compared. No file is changed. demo FILE MEMORY UNITS: the same for the mixer, after the story of it.
+ghost use Rattle.calls.specs.declared.results.Status.TheVariants.{Refused};
 ghost use Rattle.demands.specs.Demand3.{with_exchange};
 ghost use Rattle.ec20.specs.Move.{block};
 ghost use Rattle.image.specs.Image.{plant_of};
@@ -7,11 +8,15 @@ ghost use Rattle.turns.specs.Turns.{MovedTo};
 ghost use Rattle.std.specs.Prelude.{take, ◌≡◌};
 
 use beginnings::shown::Sum;
+use beginnings::trials::Begun;
 use beginnings::{shown, trials};
-use calls::results::Outcome;
+use calls::names::Command;
+use calls::output::Outputs;
+use calls::results::{Outcome, Tried};
 use memories::exchanges::Way;
 use memories::{exchanges, tables};
 use memory_scans::pairs;
+use std::fmt;
 use std::rt::Files;
 use turns::images;
 
@@ -30,8 +35,8 @@ fn scans(
     b: &mut [u8; 16892],
     w: Way,
     n: u32,
-    out: i32,
-    err: i32,
+    written: fmt::Result,
+    to: Outputs,
 ) -> Sum
     ensures { MovedTo old.now (block w.start w.length) w.place new.now → plant_of b.old ≡ with_exchange (block w.start w.length) w.place (plant_of a.old) → result.differ ≡ 0 }
 {
@@ -39,16 +44,14 @@ fn scans(
     let old_goes = engine::look_up(old, p);
     let q = engine::make_ready(new);
     let new_goes = engine::look_up(new, q);
-    let mut s = shown::begun(out);
-    let mut k: u32 = 0;
+    let mut s = shown::begun(written);
     let mut state: u32 = 1;
-    while k < n {
+    for k in 0..n {
         state = images::draw_inputs(a, b, state);
         let t = pairs::pair(
             old, p, &old_goes, new, q, &new_goes, a, b, w, ELAPSED, BUDGET,
         );
-        s = shown::scan(s, k, n, t, err);
-        k += 1;
+        s = shown::scan(s, k, n, t, to);
     }
     s
 }
@@ -62,18 +65,15 @@ fn parts(
     b: &mut [u8; 16892],
     w: Way,
     n: u32,
-    out: i32,
-    err: i32,
+    written: fmt::Result,
+    to: Outputs,
 ) -> Sum
     ensures { MovedTo (take size old.now) (block w.start w.length) w.place (take size new.now) → plant_of b.old ≡ with_exchange (block w.start w.length) w.place (plant_of a.old) → result.differ ≡ 0 }
 {
-    if size > old.len() {
-        return shown::begun(-1);
+    if (size > old.len()) | (size > new.len()) {
+        return shown::begun(Err(fmt::Error));
     }
-    if size > new.len() {
-        return shown::begun(-1);
-    }
-    scans(&old[0..size], &new[0..size], a, b, w, n, out, err)
+    scans(&old[0..size], &new[0..size], a, b, w, n, written, to)
 }
 
 // Both programs from the same memory on, in which block and place are exchanged for the new one. The new program is the old one after an accepted move:
@@ -81,37 +81,32 @@ fn parts(
 fn run_moved(
     old: &[u8; 65536],
     new: &[u8; 65536],
-    size: usize,
+    begun: Begun,
     memory: &[u8; 65536],
-    w: Way,
     n: u32,
-    out: i32,
-    err: i32,
+    to: Outputs,
 ) -> Outcome
-    requires { MovedTo (take size old.now) (block w.start w.length) w.place (take size new.now) }
-    ensures { result.status ≡ 1 → ⊥ }
+    requires { MovedTo (take begun.n old.now) (block begun.way.start begun.way.length) begun.way.place (take begun.n new.now) }
+    ensures { result.status ≡ Refused → ⊥ }
 {
+    let w = begun.way;
     let mut a = tables::image();
     let mut b = tables::image();
     tables::start(memory, &mut a);
     tables::start(memory, &mut b);
-    exchanges::in_image(&mut b, 16892, w);
-    let s = parts(old, new, size, &mut a, &mut b, w, n, out, err);
-    shown::ended(n, s, err)
+    let _ = exchanges::in_image(&mut b, 16892, w);
+    let s = parts(old, new, begun.n, &mut a, &mut b, w, n, begun.written, to);
+    shown::ended(n, s, to)
 }
 
 // A trial, or the demo.
-pub fn run(rt: &impl Files, command: usize, call: &[u8], out: i32, err: i32) -> Outcome {
-    let t = trials::wanted(command, call, err);
+pub fn run(rt: &impl Files, command: Command, call: &[u8], to: Outputs) -> Tried<Outcome> {
+    let t = trials::wanted(command, call, to.err)?;
     let mut old = io::large_buffer();
     let mut new = io::large_buffer();
     let mut memory = io::large_buffer();
-    let b = trials::begin(rt, call, t, &mut old, &mut new, &mut memory, out, err);
-    if b.status != 0 {
-        return Outcome {
-            status: b.status,
-            replaced: false,
-        };
+    match trials::begin(rt, call, t, &mut old, &mut new, &mut memory, to) {
+        Ok(begun) => Ok(run_moved(&old, &new, begun, &memory, t.scans, to)),
+        Err(outcome) => Ok(outcome),
     }
-    run_moved(&old, &new, b.n, &memory, b.way, t.scans, b.to, err)
 }

@@ -3,7 +3,8 @@ use Prim.Native.Nat.{ℕ}
 use mathlib.Core.List.{List}
 use mathlib.Core.Path.{◌≡◌, sym, ap, ◌∙◌}
 use lib.IntN.{ℤ}
-use Rattle.ec20.specs.Answers.{Told, told_by_check, told_by_move, told_by_exchange}
+use Rattle.ec20.specs.Answers.{Told, told_by_map, told_by_check, told_by_move, told_by_exchange}
+use Rattle.ec20.specs.Devices.{ec20}
 use Rattle.ec20.specs.Exchange.{Exchange}
 use Rattle.ec20.specs.Move.{Move, move}
 use Rattle.ec20.specs.Exchanged.{Exchanged}
@@ -23,9 +24,13 @@ pub tells : {r u v : Verdict} → r ≡ v → r ≡ u
     × (((told_by_check u).records ≡ (told_by_check v).records) × ((told_by_check u).steps ≡ (told_by_check v).steps)))
 tells {u = u} {v = v} e f = let p : told_by_check u ≡ told_by_check v = ap told_by_check (sym f ∙ e) in (ap (λ t. t.number) p, (ap (λ t. t.at) p, (ap (λ t. t.records) p, ap (λ t. t.steps) p)))
 
--- the four parts of a map
-pub mapped : {m v : Mapped} → m ≡ v → (m.number ≡ v.number) × ((m.at ≡ v.at) × ((m.read ≡ v.read) × (m.written ≡ v.written)))
-mapped e = (ap (λ t. t.number) e, (ap (λ t. t.at) e, (ap (λ t. t.read) e, ap (λ t. t.written) e)))
+-- the four parts that are told of a map
+pub mapped : {r u v : Mapped} → r ≡ v → r ≡ u
+    → ((told_by_map ec20 u).number ≡ (told_by_map ec20 v).number) × (((told_by_map ec20 u).at ≡ (told_by_map ec20 v).at)
+    × (((told_by_map ec20 u).read ≡ (told_by_map ec20 v).read) × ((told_by_map ec20 u).written ≡ (told_by_map ec20 v).written)))
+mapped {u = u} {v = v} e f =
+    let p : told_by_map ec20 u ≡ told_by_map ec20 v = ap (told_by_map ec20) (sym f ∙ e) in
+    (ap (λ t. t.number) p, (ap (λ t. t.at) p, (ap (λ t. t.read) p, ap (λ t. t.written) p)))
 
 -- the file after a move, and its three numbers
 pub moved : {r u : Moved} {f : List ℕ} {s : Move} → move r f ≡ s → r ≡ u

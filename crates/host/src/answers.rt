@@ -2,8 +2,6 @@
 ghost use Rattle.modbus.specs.Answer.{answer_of, told_by_answer};
 ghost use Rattle.std.specs.Prelude.{◌≡◌};
 
-use modbus::Answered;
-
 // The frame f at a station, over M, D and a reply buffer: the number of the refusal (0: none); 0 refused, 1 silent, 2 a reply; and of how many bytes,
 // from the start of the buffer on (0: there is none).
 #[unsafe(no_mangle)]
@@ -25,20 +23,17 @@ pub extern "C" fn ninhalto_answer(
     ensures length_after { length.new ≡ (told_by_answer (answer_of station f.now m.old d.old reply.old).answer).length }
 {
     match requests::answer(station, f, m, d, reply) {
-        Answered::Refused {
-            number: n,
-            record: _,
-        } => {
-            *number = n;
+        Err(refusal) => {
+            *number = refusal.number;
             *kind = 0;
             *length = 0;
         }
-        Answered::Silent => {
+        Ok(None) => {
             *number = 0;
             *kind = 1;
             *length = 0;
         }
-        Answered::Reply { length: l } => {
+        Ok(Some(l)) => {
             *number = 0;
             *kind = 2;
             *length = l;

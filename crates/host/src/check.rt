@@ -3,8 +3,6 @@ ghost use Rattle.ec20.specs.Answers.{told_by_check};
 ghost use Rattle.ec20.specs.Check.{check_of};
 ghost use Rattle.std.specs.Prelude.{◌≡◌};
 
-use ec20::Verdict;
-
 // The check of the file f: the number of the refusal (0: accepted) and the record told, the count of records and W (0 and 0: refused).
 #[unsafe(no_mangle)]
 pub extern "C" fn ninhalto_check(
@@ -20,21 +18,15 @@ pub extern "C" fn ninhalto_check(
     ensures steps_after { steps.new ≡ (told_by_check (check_of f.now)).steps }
 {
     match checker::check(f) {
-        Verdict::Accepted {
-            records: r,
-            steps: w,
-        } => {
+        Ok(accepted) => {
             *number = 0;
             *at = 0;
-            *records = r;
-            *steps = w;
+            *records = accepted.records;
+            *steps = accepted.steps;
         }
-        Verdict::Refused {
-            number: n,
-            record: k,
-        } => {
-            *number = n;
-            *at = k;
+        Err(refusal) => {
+            *number = refusal.number;
+            *at = refusal.at;
             *records = 0;
             *steps = 0;
         }

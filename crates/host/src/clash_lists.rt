@@ -3,22 +3,20 @@ ghost use Rattle.units.specs.Clash.{listed};
 ghost use Rattle.units.specs.Report.{report_of, told_by_clashes};
 ghost use Rattle.std.specs.Prelude.{◌≡◌};
 
-use units::{Clashed, Declaration};
+use ec20::Refusal;
+use units::Declaration;
 
 // The number of the refusal (0: none) and how many clashes there are (0: refused).
-fn told(c: Clashed, number: &mut usize, count: &mut usize)
+fn told(c: Result<usize, Refusal>, number: &mut usize, count: &mut usize)
     ensures number_after { number.new ≡ (told_by_clashes c).number }
     ensures count_after { count.new ≡ (told_by_clashes c).count }
 {
     match c {
-        Clashed::Refused {
-            number: n,
-            record: _,
-        } => {
-            *number = n;
+        Err(refusal) => {
+            *number = refusal.number;
             *count = 0;
         }
-        Clashed::Clashes { count: k } => {
+        Ok(k) => {
             *number = 0;
             *count = k;
         }

@@ -4,8 +4,6 @@ ghost use Rattle.ec20.specs.Exchange.{exchange_of};
 ghost use Rattle.ec20.specs.Move.{block};
 ghost use Rattle.std.specs.Prelude.{◌≡◌};
 
-use ec20::Exchanged;
-
 // The words of a block and of a place of the same length change places in the D table: the number of the refusal (0: done) and the record told.
 #[unsafe(no_mangle)]
 pub extern "C" fn ninhalto_exchange(
@@ -21,16 +19,13 @@ pub extern "C" fn ninhalto_exchange(
     ensures at_after { at.new ≡ (told_by_exchange (exchange_of d.old (block start length) place).answer).at }
 {
     match exchange::exchange(d, start, length, place) {
-        Exchanged::Done => {
+        Ok(()) => {
             *number = 0;
             *at = 0;
         }
-        Exchanged::Refused {
-            number: n,
-            record: k,
-        } => {
-            *number = n;
-            *at = k;
+        Err(refusal) => {
+            *number = refusal.number;
+            *at = refusal.at;
         }
     }
 }

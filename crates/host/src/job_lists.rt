@@ -3,28 +3,29 @@ ghost use Rattle.jobs.specs.Job.{job_of, told_by_job};
 ghost use Rattle.jobs.specs.Tasks.{tasks_of};
 ghost use Rattle.std.specs.Prelude.{◌≡◌};
 
-use jobs::Jobbed;
+use jobs::JobRefusal;
 
 // The number of the refusal (0: done), the record told, and the lines told.
-fn told(a: Jobbed, number: &mut usize, at: &mut usize, line: &mut usize, other: &mut usize)
+fn told(
+    a: Result<usize, JobRefusal>,
+    number: &mut usize,
+    at: &mut usize,
+    line: &mut usize,
+    other: &mut usize,
+)
     ensures number_after { number.new ≡ (told_by_job a).number }
     ensures at_after { at.new ≡ (told_by_job a).at }
     ensures line_after { line.new ≡ (told_by_job a).line }
     ensures other_after { other.new ≡ (told_by_job a).other }
 {
     match a {
-        Jobbed::Refused {
-            number: n,
-            record: k,
-            line: i,
-            other: j,
-        } => {
-            *number = n;
-            *at = k;
-            *line = i;
-            *other = j;
+        Err(refusal) => {
+            *number = refusal.number;
+            *at = refusal.at;
+            *line = refusal.line;
+            *other = refusal.other;
         }
-        Jobbed::Done { moves: _ } => {
+        Ok(_) => {
             *number = 0;
             *at = 0;
             *line = 0;

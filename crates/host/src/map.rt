@@ -1,4 +1,6 @@
 // The use map.
+ghost use Rattle.ec20.specs.Answers.{told_by_map};
+ghost use Rattle.ec20.specs.Devices.{ec20};
 ghost use Rattle.ec20.specs.UseMap.{use_map_of};
 ghost use Rattle.std.specs.Prelude.{◌≡◌};
 
@@ -11,16 +13,23 @@ pub extern "C" fn ninhalto_map(
     read: &mut [u8; 1000],
     written: &mut [u8; 1000],
 )
-    ensures number_after { number.new ≡ (use_map_of f.now).number }
-    ensures at_after { at.new ≡ (use_map_of f.now).at }
-    ensures read_after { read.new ≡ (use_map_of f.now).read }
-    ensures written_after { written.new ≡ (use_map_of f.now).written }
+    ensures number_after { number.new ≡ (told_by_map ec20 (use_map_of f.now)).number }
+    ensures at_after { at.new ≡ (told_by_map ec20 (use_map_of f.now)).at }
+    ensures read_after { read.new ≡ (told_by_map ec20 (use_map_of f.now)).read }
+    ensures written_after { written.new ≡ (told_by_map ec20 (use_map_of f.now)).written }
 {
-    let m = usemap::use_map(f);
-    *number = m.number;
-    *at = m.at;
-    let r = m.read;
-    let w = m.written;
-    *read = r;
-    *written = w;
+    match usemap::use_map(f) {
+        Ok(m) => {
+            *number = 0;
+            *at = 0;
+            *read = m.read;
+            *written = m.written;
+        }
+        Err(refusal) => {
+            *number = refusal.number;
+            *at = refusal.at;
+            *read = [0; 1000];
+            *written = [0; 1000];
+        }
+    }
 }

@@ -3,8 +3,6 @@ ghost use Rattle.ec20.specs.Answers.{told_by_move};
 ghost use Rattle.ec20.specs.Move.{block, pool, move_of};
 ghost use Rattle.std.specs.Prelude.{◌≡◌};
 
-use ec20::Moved;
-
 // The move of a block of the file f to the lowest place in the pool: the number of the refusal (0: moved) and the record told, and the place's
 // start (0: refused).
 #[unsafe(no_mangle)]
@@ -24,17 +22,14 @@ pub extern "C" fn ninhalto_move(
     ensures place_after { place.new ≡ (told_by_move (move_of f.old (block start length) (pool from end)).answer).place }
 {
     match mover::move_block(f, start, length, from, end) {
-        Moved::To { place: q } => {
+        Ok(q) => {
             *number = 0;
             *at = 0;
             *place = q;
         }
-        Moved::Refused {
-            number: n,
-            record: k,
-        } => {
-            *number = n;
-            *at = k;
+        Err(refusal) => {
+            *number = refusal.number;
+            *at = refusal.at;
             *place = 0;
         }
     }

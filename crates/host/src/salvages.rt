@@ -2,8 +2,6 @@
 ghost use Rattle.torn.specs.Salvage.{salvage_of, told_by_salvage};
 ghost use Rattle.std.specs.Prelude.{◌≡◌};
 
-use torn::Salvaged;
-
 // What is kept of the torn file, as a proper file in `out`: the number of the refusal (0: done) and the record told, the records kept, the END records added,
 // 0 or 1, and the bytes of the torn file after those kept.
 #[unsafe(no_mangle)]
@@ -24,26 +22,19 @@ pub extern "C" fn ninhalto_salvage(
     ensures rest_after { rest.new ≡ (told_by_salvage (salvage_of torn.now out.old).answer).rest }
 {
     match salvage::salvage(torn, out) {
-        Salvaged::Refused {
-            number: n,
-            record: k,
-        } => {
-            *number = n;
-            *at = k;
+        Err(refusal) => {
+            *number = refusal.number;
+            *at = refusal.at;
             *kept = 0;
             *added = 0;
             *rest = 0;
         }
-        Salvaged::Done {
-            kept: n,
-            added: a,
-            rest: r,
-        } => {
+        Ok(saved) => {
             *number = 0;
             *at = 0;
-            *kept = n;
-            *added = a;
-            *rest = r;
+            *kept = saved.kept;
+            *added = saved.added;
+            *rest = saved.rest;
         }
     }
 }

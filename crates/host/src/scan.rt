@@ -3,19 +3,27 @@ ghost use Rattle.ec20.specs.Memory.{memory};
 ghost use Rattle.ec20.specs.Plant.{plant};
 ghost use Rattle.ec20.specs.Scan.{scan_of, plain_scan};
 ghost use Rattle.host.specs.Seven.{seven_of};
-ghost use Rattle.std.specs.Prelude.{◌≡◌};
+ghost use Rattle.std.specs.Prelude.{◌≡◌, Ok};
 
-use ec20::Scanned;
+use ec20::{Refusal, Stop};
 
-// The number of the refusal (0: none) and the record told; 0 refused, 1 ended, 2 watchdog; the steps, the record stopped at, the first error
-// and its record.
-fn seven(s: Scanned) -> [usize; 7]
-    ensures { result ≡ seven_of s }
+// No refusal; 1 ended, 2 watchdog; the steps, the record stopped at, the first error and its record.
+fn of_stop(stop: Stop) -> [usize; 7]
+    ensures { result ≡ seven_of (Ok stop) }
 {
-    match s {
-        Scanned::Ended(r) => [0, 0, 1, r.steps, r.stop, r.error, r.at],
-        Scanned::Watchdog(r) => [0, 0, 2, r.steps, r.stop, r.error, r.at],
-        Scanned::Refused { number, record } => [number, record, 0, 0, 0, 0, 0],
+    match stop {
+        Stop::Ended(r) => [0, 0, 1, r.steps, r.stop, r.error, r.at],
+        Stop::Watchdog(r) => [0, 0, 2, r.steps, r.stop, r.error, r.at],
+    }
+}
+
+// The same, or the number of the refusal and the record told, and 0.
+fn seven(scanned: Result<Stop, Refusal>) -> [usize; 7]
+    ensures { result ≡ seven_of scanned }
+{
+    match scanned {
+        Ok(stop) => of_stop(stop),
+        Err(r) => [r.number, r.at, 0, 0, 0, 0, 0],
     }
 }
 

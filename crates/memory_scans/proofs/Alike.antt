@@ -2,7 +2,7 @@
 use Prim.Native.Nat.{ℕ}
 use mathlib.Core.List.{List, [], ◌∷◌}
 use mathlib.Core.Path.{◌≡◌, refl, sym, ap, subst, ◌∙◌}
-use native.Mathlib.Decide.{dec_lt}
+use Rattle.std.specs.Prelude.{Option, Some, None}
 use native.Mathlib.Omega.{arith}
 use lib.IntN.{ℤ}
 use lib.ListN.{length, get_or}
@@ -27,12 +27,9 @@ use Rattle.memory_scans.specs.Pairs.{Paired}
 use Rattle.memory_scans.specs.Scans.{scan_in}
 
 -- no byte of a file is apart from itself
-pub apart_none : (x : List ℕ) (r : ℕ) → FirstApart x x r → r ≡ 16892
-apart_none x r a =
-    elim (dec_lt r 16892) [
-      | yes h ↦ absurd (a.other h refl)
-      | no h ↦ omega (arith, a.inside, h)
-    ]
+pub apart_none : (x : List ℕ) (r : Option ℕ) → FirstApart x x r → r ≡ None
+apart_none x None a = refl
+apart_none x (Some r) a = absurd (a.other refl)
 
 module _ (f g : List ℕ) (b : Block) (q : ℕ) (s : Same ec20 f b q g) where
   -- one scan of the moved program on the exchanged memory

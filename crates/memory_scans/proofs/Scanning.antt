@@ -63,32 +63,13 @@ module _ (f : List ℕ) (e n : ℕ) where
 -- b and b': the bytes before and after it. Tables and leftovers are those of b, the scan goes over them, with X whole or none of it, and they are joined
 -- to b'.
 module _ {b b' : List ℕ} (f : List ℕ) (size e n : ℕ) {k : ℕ} {x y y' m m' sm sm' t t' rest rest' : List ℕ} {d d' tv tv' : List ℤ} {r : Scanned}
-    (long : length b ≡ 16892)
+    (sizes : Sizes (plant (memory x y m sm t d tv) rest))
     (split : plant (memory x y m sm t d tv) rest ≡ plant_of b)
     (back : image_of (plant_of b) ≡ b)
     (entries : k ≡ pick (eqb size 16892) 32 0)
     (scanned : scan r (plant (memory (take k x) y' m' sm' t' d' tv') rest') ≡ scan_of f e n (plant (memory (take k x) y m sm t d tv) rest))
-    (kept-y : length y' ≡ length y) (kept-m : length m' ≡ length m) (kept-sm : length sm' ≡ length sm) (kept-t : length t' ≡ length t)
-    (kept-d : length d' ≡ length d) (kept-tv : length tv' ≡ length tv) (kept-rest : length rest' ≡ length rest)
-    (joined : length b ≡ 16892 → b' ≡ image_of (plant (memory x y' m' sm' t' d' tv') rest'))
-    (again : length b ≡ 16892 → Sizes (plant (memory x y' m' sm' t' d' tv') rest') → plant_of b' ≡ plant (memory x y' m' sm' t' d' tv') rest') where
-  sizes : Sizes (plant (memory x y m sm t d tv) rest)
-  sizes = subst Sizes (sym split) (plant-sizes b long)
-
-  kept : Sizes (plant (memory x y' m' sm' t' d' tv') rest')
-  kept =
-      let s = sizes in
-      record {
-        x = s.x;
-        y = kept-y ∙ s.y;
-        m = kept-m ∙ s.m;
-        sm = kept-sm ∙ s.sm;
-        t = kept-t ∙ s.t;
-        d = kept-d ∙ s.d;
-        tv = kept-tv ∙ s.tv;
-        rest = kept-rest ∙ s.rest;
-      }
-
+    (joined : b' ≡ image_of (plant (memory x y' m' sm' t' d' tv') rest'))
+    (again : plant_of b' ≡ plant (memory x y' m' sm' t' d' tv') rest') where
   all : scan r (plant (memory x y' m' sm' t' d' tv') rest') ≡ scan_in f size e n (plant_of b)
   unfolding scan_in
   all = by_size f e n (plant (memory x y m sm t d tv) rest) (eqb size 16892) k entries sizes.x scanned ∙ ap (scan_in f size e n) split
@@ -100,6 +81,4 @@ module _ {b b' : List ℕ} (f : List ℕ) (size e n : ℕ) {k : ℕ} {x y y' m m
   scan-after =
       let answer = ap (λ (z : Scan). z.answer) all in
       let same = ap (λ (z : Scan). z.plant) all in
-      let j = joined long in
-      let a = again long kept in
-      (answer, (tables_after j a same, (bytes_after j a same, λ m k h. no_byte j a same back (scan-keeps f e n size (plant_of b) m k (sym answer ∙ h)))))
+      (answer, (tables_after joined again same, (bytes_after joined again same, λ m k h. no_byte joined again same back (scan-keeps f e n size (plant_of b) m k (sym answer ∙ h)))))

@@ -12,7 +12,7 @@ ghost use Rattle.engine.specs.Made.{Made, Goes};
 ghost use Rattle.image.specs.Image.{plant_of, image_of};
 ghost use Rattle.memory_scans.specs.Scans.{scan_in};
 
-use ec20::Scanned;
+use ec20::{Refusal, Stop};
 use engine::Ready;
 use memories::tables;
 
@@ -33,7 +33,7 @@ pub fn scan_ready(
     size: usize,
     elapsed: u32,
     budget: u32,
-) -> Scanned
+) -> Result<Stop, Refusal>
     requires made { Made f.now p }
     requires goes { Goes f.now p goes.now }
     ensures value { result ≡ (scan_in f.now size elapsed budget (plant_of image.old)).answer }
@@ -41,39 +41,29 @@ pub fn scan_ready(
     ensures image_after_2 { image.new ≡ image_of (scan_in f.now size elapsed budget (plant_of image.old)).plant }
     ensures by_index { (m k : ℕ) → result ≡ Refused m k → image.new ≡ image.old }
 {
-    let mut x = tables::bits();
-    let mut y = tables::bits();
-    let mut m = tables::m_bits();
-    let mut sm = tables::bits();
-    let mut t = tables::bits();
-    let mut d = tables::d_words();
-    let mut tv = tables::t_values();
-    let mut rest = tables::rest();
-    image::split(
-        image, &mut x, &mut y, &mut m, &mut sm, &mut t, &mut d, &mut tv, &mut rest,
-    );
+    let mut tables = tables::split(image);
     let n = entries(size);
-    let s = engine::scan_ready(
+    let scanned = engine::scan_ready(
         p,
         goes,
         f,
-        &x[..n],
-        &mut y,
-        &mut m,
-        &mut sm,
-        &mut t,
-        &mut d,
-        &mut tv,
-        &mut rest,
+        &tables.x[..n],
+        &mut tables.y,
+        &mut tables.m,
+        &mut tables.sm,
+        &mut tables.t,
+        &mut tables.d,
+        &mut tables.tv,
+        &mut tables.rest,
         elapsed,
         budget,
     );
-    image::join(&x, &y, &m, &sm, &t, &d, &tv, &rest, image);
-    s
+    tables::join(tables, image);
+    scanned
 }
 
 // The same of any file, which is made ready first.
-pub fn scan(f: &[u8], image: &mut [u8; 16892], size: usize, elapsed: u32, budget: u32) -> Scanned
+pub fn scan(f: &[u8], image: &mut [u8; 16892], size: usize, elapsed: u32, budget: u32) -> Result<Stop, Refusal>
     ensures value { result ≡ (scan_in f.now size elapsed budget (plant_of image.old)).answer }
     ensures image_after { plant_of image.new ≡ (scan_in f.now size elapsed budget (plant_of image.old)).plant }
     ensures image_after_2 { image.new ≡ image_of (scan_in f.now size elapsed budget (plant_of image.old)).plant }

@@ -2,8 +2,11 @@
 // and what came of the call to descriptor 3, as a line: the status, with `replaced` after it where a file was.
 #![tactic(auto)]
 
+use calls::names::Command;
+use calls::output::{Descriptor, Outputs};
 use calls::results::Outcome;
-use calls::{STDERR_FILENO, STDOUT_FILENO, arguments, asked, results, texts};
+use calls::{STDERR_FILENO, STDOUT_FILENO, arguments, asked, results};
+use std::fmt::Write;
 use std::fs::File;
 use std::random::RandomSource;
 use std::rt::{Clock, Files};
@@ -14,36 +17,33 @@ const STATUS_FILENO: i32 = 3;
 fn chosen<R: Files<File = File> + RandomSource + Clock>(
     rt: &R,
     call: &[u8],
-    out: i32,
-    err: i32,
+    to: Outputs,
 ) -> Outcome {
-    let command = asked::command(call);
-    if commands::scans(command) {
-        return commands::run(rt, command, call, out, err);
+    match asked::command(call) {
+        Some(command) if commands::scans(command) => commands::run(rt, command, call, to),
+        Some(Command::Slave) => serving::run(rt, call, to),
+        Some(command) if unit_commands::knows(command) => {
+            unit_commands::run(rt, command, call, to)
+        }
+        Some(command) if job_commands::knows(command) => job_commands::run(rt, call, to),
+        command => file_commands::run(rt, command, call, to),
     }
-    if command == asked::SLAVE {
-        return serving::run(rt, call, out, err);
-    }
-    if unit_commands::knows(command) {
-        return unit_commands::run(rt, command, call, out, err);
-    }
-    if job_commands::knows(command) {
-        return job_commands::run(rt, call, out, err);
-    }
-    file_commands::run(rt, command, call, out, err)
 }
 
-// The call is the first n bytes, where it fits.
-fn run<R: Files<File = File> + RandomSource + Clock>(rt: &R, call: &[u8], n: usize) -> Outcome {
-    if n > call.len() {
-        texts::say(STDERR_FILENO, texts::TOO_LONG, 0, 0, 0, 0);
-        return results::not_tried();
-    }
-    chosen(rt, &call[0..n], STDOUT_FILENO, STDERR_FILENO)
+fn too_long(mut err: Descriptor) -> Outcome {
+    let _ = writeln!(err, "ninhalto: the call is too long");
+    results::not_tried()
 }
 
 fn main(rt: HostRuntime) {
+    let to = Outputs {
+        out: Descriptor(STDOUT_FILENO),
+        err: Descriptor(STDERR_FILENO),
+    };
     let mut call = io::large_buffer();
-    let n = arguments::gather(&rt, &mut call);
-    results::tell(STATUS_FILENO, run(&rt, &call, n));
+    let outcome = match arguments::gather(&rt, &mut call) {
+        Some(n) => chosen(&rt, &call[..n], to),
+        None => too_long(to.err),
+    };
+    results::tell(Descriptor(STATUS_FILENO), outcome);
 }

@@ -10,16 +10,16 @@ mod wanted;
 ghost use Rattle.engine.specs.Made.{Made, Goes};
 
 use beginnings::scans;
-use calls::results::Outcome;
-use calls::{files, results, text, texts};
-use ec20::Scanned;
+use calls::output::{Descriptor, Outputs};
+use calls::results::{Outcome, Status, Tried};
+use calls::{files, results, text};
+use ec20::{Refusal, Stop};
 use engine::Ready;
 use memories::tables;
 use state::{Counts, State};
 use std::fs::File;
 use std::random::RandomSource;
 use std::rt::{Clock, Files};
-use telling::report;
 use wanted::Wanted;
 
 // So many turns at most, more than there are milliseconds in a hundred million years: so it is seen to end.
@@ -35,19 +35,17 @@ fn turns<'a>(
     held: &mut [u8],
     w: Wanted,
     begun: State<'a>,
-    err: i32,
+    err: Descriptor,
 ) -> State<'a>
     requires made { Made f.now p }
     requires goes { Goes f.now p goes.now }
 {
     let mut s = begun;
-    let mut k: u64 = 0;
-    while k < TURNS {
+    for _turn in 0..TURNS {
         s = turn::turn(rt, f, p, goes, image, held, w, s, err);
         if s.over {
-            return s;
+            break;
         }
-        k += 1;
     }
     s
 }
@@ -56,16 +54,13 @@ fn turns<'a>(
 fn tell(
     rt: &(impl Files + RandomSource),
     call: &[u8],
-    s: Counts,
+    counts: Counts,
     image: &[u8; 16892],
-    out: i32,
-    err: i32,
-) -> Outcome {
-    if files::replace(rt, text::word(call, 2), image, err) {
-        let to = texts::say(out, texts::SERVED, s.scans, s.requests, s.replies, s.silent);
-        return results::answered(0, true, to, err);
-    }
-    results::not_tried()
+    to: Outputs,
+) -> Tried<Outcome> {
+    files::replace(rt, text::word(call, 2), image, to.err)?;
+    let written = counts.tell(to.out);
+    Ok(results::answered(Status::Answered, true, written, to.err))
 }
 
 // The line is opened, served until the end, and closed.
@@ -77,14 +72,12 @@ fn served<R: Files<File = File> + Clock>(
     goes: &[usize; 2000],
     image: &mut [u8; 16892],
     w: Wanted,
-    err: i32,
-) -> Option<Counts>
+    err: Descriptor,
+) -> Tried<Counts>
     requires made { Made f.now p }
     requires goes { Goes f.now p goes.now }
 {
-    let Some(device) = files::open(rt, text::word(call, 3), err) else {
-        return None;
-    };
+    let device = files::open(rt, text::word(call, 3), err)?;
     let stop = files::open_read(rt, text::word(call, 7)).ok();
     let mut held = state::room();
     let s = turns(
@@ -98,12 +91,7 @@ fn served<R: Files<File = File> + Clock>(
         state::begun(rt, &device, stop.as_ref()),
         err,
     );
-    Some(Counts {
-        scans: s.scans,
-        requests: s.requests,
-        replies: s.replies,
-        silent: s.silent,
-    })
+    Ok(s.counts)
 }
 
 // What came of it is told when the line is closed.
@@ -115,32 +103,13 @@ fn serve<R: Files<File = File> + RandomSource + Clock>(
     goes: &[usize; 2000],
     image: &mut [u8; 16892],
     w: Wanted,
-    out: i32,
-    err: i32,
-) -> Outcome
+    to: Outputs,
+) -> Tried<Outcome>
     requires made { Made f.now p }
     requires goes { Goes f.now p goes.now }
 {
-    match served(rt, call, f, p, goes, image, w, err) {
-        Some(s) => tell(rt, call, s, image, out, err),
-        None => results::not_tried(),
-    }
-}
-
-// 1 to 8 are told of the program file, word 1; 9 and 16 of the memory file, word 2, which has so many bytes.
-fn refuse(
-    call: &[u8],
-    f: &[u8],
-    number: usize,
-    record: usize,
-    size: usize,
-    out: i32,
-    err: i32,
-) -> Outcome {
-    let word = text::word(call, 1 + number / 9);
-    let o = report::refused(word, f, number, record, out, err);
-    report::of_before(number, size, err);
-    o
+    let counts = served(rt, call, f, p, goes, image, w, to.err)?;
+    tell(rt, call, counts, image, to)
 }
 
 // After the first scan, by which the program and the memory file, of so many bytes, are judged; then the station is.
@@ -150,25 +119,23 @@ fn judged<R: Files<File = File> + RandomSource + Clock>(
     f: &[u8],
     p: Ready,
     goes: &[usize; 2000],
-    s: Scanned,
+    scanned: Result<Stop, Refusal>,
     image: &mut [u8; 16892],
     size: usize,
     w: Wanted,
-    out: i32,
-    err: i32,
-) -> Outcome
+    to: Outputs,
+) -> Tried<Outcome>
     requires made { Made f.now p }
     requires goes { Goes f.now p goes.now }
 {
-    match s {
-        Scanned::Refused { number, record } => refuse(call, f, number, record, size, out, err),
-        _ => {
-            if (1 <= w.station) & (w.station <= 247) {
-                return serve(rt, call, f, p, goes, image, w, out, err);
-            }
-            refuse(call, f, 16, 0, size, out, err)
-        }
+    if let Err(refusal) = scanned {
+        return Ok(scans::refused(call, f, refusal, size, to));
     }
+    if (1..=247).contains(&w.station) {
+        return serve(rt, call, f, p, goes, image, w, to);
+    }
+    let unknown = Refusal { number: 16, at: 0 };
+    Ok(scans::refused(call, f, unknown, size, to))
 }
 
 // The program file's bytes and the memory file's, of which there were so many.
@@ -179,33 +146,33 @@ fn run_loaded<R: Files<File = File> + RandomSource + Clock>(
     memory: &[u8; 65536],
     size: usize,
     w: Wanted,
-    out: i32,
-    err: i32,
-) -> Outcome {
+    to: Outputs,
+) -> Tried<Outcome> {
     let mut image = tables::image();
     tables::start(memory, &mut image);
     let p = engine::make_ready(f);
     let goes = engine::look_up(f, p);
-    let s = memory_scans::scan_ready(p, &goes, f, &mut image, size, 0, turn::BUDGET);
-    judged(rt, call, f, p, &goes, s, &mut image, size, w, out, err)
+    let scanned = memory_scans::scan_ready(p, &goes, f, &mut image, size, 0, turn::BUDGET);
+    judged(rt, call, f, p, &goes, scanned, &mut image, size, w, to)
+}
+
+fn run_asked<R: Files<File = File> + RandomSource + Clock>(
+    rt: &R,
+    call: &[u8],
+    to: Outputs,
+) -> Tried<Outcome> {
+    let w = wanted::asked(call, to.err)?;
+    let mut file = io::large_buffer();
+    let mut memory = io::large_buffer();
+    let sizes = scans::load(rt, call, 2, to.err, &mut file, &mut memory)?;
+    let n = sizes.program;
+    run_loaded(rt, call, &file[..n], &memory, sizes.memory, w, to)
 }
 
 pub fn run<R: Files<File = File> + RandomSource + Clock>(
     rt: &R,
     call: &[u8],
-    out: i32,
-    err: i32,
+    to: Outputs,
 ) -> Outcome {
-    let w = wanted::asked(call, err);
-    if !w.good {
-        return results::not_tried();
-    }
-    let mut file = io::large_buffer();
-    let mut memory = io::large_buffer();
-    let s = scans::load(rt, call, 2, err, &mut file, &mut memory);
-    if !s.whole {
-        return results::not_tried();
-    }
-    let n = s.program;
-    run_loaded(rt, call, &file[..n], &memory, s.memory, w, out, err)
+    run_asked(rt, call, to).unwrap_or(results::not_tried())
 }

@@ -1,8 +1,42 @@
 // How far a slave is.
 ghost use Rattle.std.specs.Prelude.{◌≡◌, false, length};
 
+use calls::output::Descriptor;
+use std::fmt;
+use std::fmt::Write;
 use std::fs::File;
 use std::rt::Clock;
+
+// What is told each second and at the end.
+#[derive(Clone, Copy)]
+pub struct Counts {
+    pub scans: usize,
+    pub requests: usize,
+    pub replies: usize,
+    pub silent: usize,
+}
+
+impl Counts {
+    // As a line.
+    pub fn tell(self, mut to: Descriptor) -> fmt::Result {
+        writeln!(to, "{self}")
+    }
+}
+
+impl fmt::Display for Counts {
+    fn fmt<W: fmt::Write>(&self, f: &mut fmt::Formatter<W>) -> fmt::Result {
+        let Counts {
+            scans,
+            requests,
+            replies,
+            silent,
+        } = *self;
+        write!(
+            f,
+            "scans {scans} requests {requests} replies {replies} silent {silent}"
+        )
+    }
+}
 
 // device: the line; stop: the file in which a byte asks to end, if there is one. Moments in milliseconds: when it began, up to when its scans have counted the time, when
 // the last byte came, when it was last told how far it is. held: how many bytes came and are not answered yet; came: how many of them in this turn.
@@ -17,26 +51,14 @@ pub struct State<'a> {
     pub shown: u64,
     pub held: usize,
     pub came: usize,
-    pub scans: usize,
-    pub requests: usize,
-    pub replies: usize,
-    pub silent: usize,
+    pub counts: Counts,
     pub over: bool,
-}
-
-// What is told at the end.
-#[derive(Clone, Copy)]
-pub struct Counts {
-    pub scans: usize,
-    pub requests: usize,
-    pub replies: usize,
-    pub silent: usize,
 }
 
 // One scan was made. All four moments are the one that the clock tells.
 pub fn begun<'a>(rt: &impl Clock, device: &'a File, stop: Option<&'a File>) -> State<'a>
     ensures device_value { (result.device ≡ device.entry) × (result.stop ≡ stop.entry) × (result.counted ≡ result.begun) × (result.heard ≡ result.begun) × (result.shown ≡ result.begun) }
-    ensures held_value { (result.held ≡ 0) × (result.came ≡ 0) × (result.scans ≡ 1) × (result.requests ≡ 0) × (result.replies ≡ 0) × (result.silent ≡ 0) × (result.over ≡ false) }
+    ensures held_value { (result.held ≡ 0) × (result.came ≡ 0) × (result.counts.scans ≡ 1) × (result.counts.requests ≡ 0) × (result.counts.replies ≡ 0) × (result.counts.silent ≡ 0) × (result.over ≡ false) }
 {
     let now = clock::milliseconds(rt);
     State {
@@ -48,10 +70,12 @@ pub fn begun<'a>(rt: &impl Clock, device: &'a File, stop: Option<&'a File>) -> S
         shown: now,
         held: 0,
         came: 0,
-        scans: 1,
-        requests: 0,
-        replies: 0,
-        silent: 0,
+        counts: Counts {
+            scans: 1,
+            requests: 0,
+            replies: 0,
+            silent: 0,
+        },
         over: false,
     }
 }

@@ -4,10 +4,9 @@ ghost use Rattle.engine.specs.Made.{Made, Goes};
 use crate::state;
 use crate::state::State;
 use crate::wanted::Wanted;
-use calls::texts;
+use calls::output::Descriptor;
 use engine::Ready;
 use memories::answers;
-use modbus::Answered;
 use serial::{held, times};
 use std::fs::File;
 use std::io::{IsTerminal, Read, Write};
@@ -17,16 +16,9 @@ use std::rt::Clock;
 // The most steps that a scan of a slave may take, which is more than one without a budget may (document 02, (vi)).
 pub const BUDGET: u32 = 1_000_000;
 
-fn one_more(n: usize) -> usize {
-    std::num::wrapping_add_usize(n, 1)
-}
-
 // Whether the time is over.
 fn is_late(w: Wanted, begun: u64, now: u64) -> bool {
-    if w.seconds == 0 {
-        return false;
-    }
-    times::between(begun, now) >= w.seconds as u64 * 1000
+    (w.seconds != 0) & (times::between(begun, now) >= u64::from(w.seconds) * 1000)
 }
 
 // Whether it is asked to end.
@@ -44,23 +36,21 @@ fn scanned<'a>(
     p: Ready,
     goes: &[usize; 2000],
     image: &mut [u8; 16892],
-    s0: State<'a>,
+    mut s: State<'a>,
     moment: u64,
 ) -> State<'a>
     requires made { Made f.now p }
     requires goes { Goes f.now p goes.now }
 {
-    let mut s = s0;
     let n = times::since(s.counted, moment);
-    memory_scans::scan_ready(p, goes, f, image, 16892, n.elapsed, BUDGET);
+    let _ = memory_scans::scan_ready(p, goes, f, image, 16892, n.elapsed, BUDGET);
     s.counted = n.until;
-    s.scans = one_more(s.scans);
+    s.counts.scans = s.counts.scans.wrapping_add(1);
     s
 }
 
 // What the line has is held with what came before. A line that cannot be read is hung up.
-fn read<'a>(rt: &impl Clock, held: &mut [u8], s0: State<'a>) -> State<'a> {
-    let mut s = s0;
+fn read<'a>(rt: &impl Clock, held: &mut [u8], mut s: State<'a>) -> State<'a> {
     let mut bytes = io::buffer();
     let mut device = s.device;
     s.over = false;
@@ -85,37 +75,34 @@ fn frame(held: &[u8], w: Wanted, s: State<'_>, now: u64) -> usize {
     if n > held.len() {
         return 0;
     }
-    let silence = (s.came == 0) & (times::between(s.heard, now) > w.silence as u64);
-    held::frame(w.station as usize, &held[0..n], silence)
+    let silence = (s.came == 0) & (times::between(s.heard, now) > u64::from(w.silence));
+    held::frame(w.station as usize, &held[..n], silence)
 }
 
-fn silent(s0: State<'_>) -> State<'_> {
-    let mut s = s0;
-    s.silent = one_more(s.silent);
+fn silent(mut s: State<'_>) -> State<'_> {
+    s.counts.silent = s.counts.silent.wrapping_add(1);
     s
 }
 
 // The first n bytes of a reply. A line that does not take them is hung up.
-fn sent<'a>(reply: &[u8], n: usize, s0: State<'a>) -> State<'a> {
-    let mut s = s0;
+fn sent<'a>(reply: &[u8], n: usize, mut s: State<'a>) -> State<'a> {
     if n > reply.len() {
         return s;
     }
-    s.replies = one_more(s.replies);
+    s.counts.replies = s.counts.replies.wrapping_add(1);
     let mut device = s.device;
-    if device.write_all(&reply[0..n]).is_err() {
+    if device.write_all(&reply[..n]).is_err() {
         s.over = true;
     }
     s
 }
 
 // The frame is answered. The station was judged, so that no call is refused.
-fn answered<'a>(image: &mut [u8; 16892], frame: &[u8], w: Wanted, s0: State<'a>) -> State<'a> {
-    let mut s = s0;
-    s.requests = one_more(s.requests);
+fn answered<'a>(image: &mut [u8; 16892], frame: &[u8], w: Wanted, mut s: State<'a>) -> State<'a> {
+    s.counts.requests = s.counts.requests.wrapping_add(1);
     let mut reply = state::reply();
     match answers::in_image(image, 16892, w.station, frame, &mut reply) {
-        Answered::Reply { length } => sent(&reply, length, s),
+        Ok(Some(length)) => sent(&reply, length, s),
         _ => silent(s),
     }
 }
@@ -126,20 +113,19 @@ fn taken<'a>(
     held: &mut [u8],
     k: usize,
     w: Wanted,
-    s0: State<'a>,
+    mut s: State<'a>,
 ) -> State<'a> {
     if k > held.len() {
-        return s0;
+        return s;
     }
-    let mut s = answered(image, &held[0..k], w, s0);
+    s = answered(image, &held[..k], w, s);
     s.held = held::less(held, s.held, k);
     s
 }
 
 // Nothing is to be answered. Where nothing came, a moment is waited; but a line that has nothing and is no terminal any more is hung up, and what never was
 // one is at its end.
-fn rested<'a>(rt: &impl Clock, s0: State<'a>) -> State<'a> {
-    let mut s = s0;
+fn rested<'a>(rt: &impl Clock, mut s: State<'a>) -> State<'a> {
     if s.came > 0 {
         return s;
     }
@@ -152,11 +138,10 @@ fn rested<'a>(rt: &impl Clock, s0: State<'a>) -> State<'a> {
 }
 
 // How far it is, each second.
-fn shown<'a>(w: Wanted, s0: State<'a>, now: u64, err: i32) -> State<'a> {
-    let mut s = s0;
+fn shown<'a>(w: Wanted, mut s: State<'a>, now: u64, err: Descriptor) -> State<'a> {
     if (w.told != 0) & (times::between(s.shown, now) >= 1000) {
         s.shown = now;
-        texts::say(err, texts::SERVED, s.scans, s.requests, s.replies, s.silent);
+        let _ = s.counts.tell(err);
     }
     s
 }
@@ -185,14 +170,14 @@ pub fn turn<'a>(
     image: &mut [u8; 16892],
     held: &mut [u8],
     w: Wanted,
-    s0: State<'a>,
-    err: i32,
+    mut s: State<'a>,
+    err: Descriptor,
 ) -> State<'a>
     requires made { Made f.now p }
     requires goes { Goes f.now p goes.now }
 {
     let now = clock::milliseconds(rt);
-    let mut s = shown(w, s0, now, err);
+    s = shown(w, s, now, err);
     if is_late(w, s.begun, now) | is_stopped(s.stop) {
         s.over = true;
         return s;

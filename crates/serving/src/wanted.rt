@@ -1,37 +1,41 @@
 // What a call asks for.
 ghost use Rattle.calls.specs.Numbers.{is_number, number_of};
 ghost use Rattle.calls.specs.Text.{word_of};
-ghost use Rattle.std.specs.Prelude.{◌≡◌, ◌&&◌};
+ghost use Rattle.std.specs.Prelude.{◌≡◌, ◌&&◌, ◌↔◌, IsOk, IfOk, IsTrue};
 
-use calls::numbers;
+use calls::output::Descriptor;
+use calls::results::Tried;
+use calls::{numbers, text};
 
 // The own station; how many seconds it goes on, 0 for without end; the silence that ends a frame, in milliseconds; whether it is told each second how far
-// it is. good: station and seconds are numbers.
+// it is.
 #[derive(Clone, Copy)]
 pub struct Wanted {
     pub station: u32,
     pub seconds: u32,
     pub silence: u32,
     pub told: u32,
-    pub good: bool,
 }
 
-// Words 4, 5, 6 and 8. The last two are no words of the user's, and 0 where they are no numbers.
-pub fn asked(call: &[u8], err: i32) -> Wanted
-    ensures station_value { (result.station ≡ number_of (word_of call.now 4)) × (result.seconds ≡ number_of (word_of call.now 5)) }
-    ensures silence_value { (result.silence ≡ number_of (word_of call.now 6)) × (result.told ≡ number_of (word_of call.now 8)) }
-    ensures good_value { result.good ≡ (is_number (word_of call.now 4) && is_number (word_of call.now 5)) }
+// A word that is none of the user's: 0 where it is no number.
+fn own(call: &[u8], i: usize) -> u32
+    ensures { result ≡ number_of (word_of call.now i) }
 {
-    let station = numbers::word(call, 4, numbers::STATION, err);
-    let to = numbers::err_after(station.good, err);
-    let seconds = numbers::word(call, 5, numbers::SECONDS, to);
-    let silence = numbers::word(call, 6, numbers::SECONDS, -1);
-    let told = numbers::word(call, 8, numbers::SECONDS, -1);
-    Wanted {
-        station: station.n,
-        seconds: seconds.n,
-        silence: silence.n,
-        told: told.n,
-        good: station.good & seconds.good,
-    }
+    numbers::parsed(text::word(call, i)).unwrap_or(0)
+}
+
+// Words 4, 5, 6 and 8, where station and seconds are numbers.
+pub fn asked(call: &[u8], err: Descriptor) -> Tried<Wanted>
+    ensures some { IsOk result ↔ IsTrue (is_number (word_of call.now 4) && is_number (word_of call.now 5)) }
+    ensures station_value { IfOk result (λ w. (w.station ≡ number_of (word_of call.now 4)) × (w.seconds ≡ number_of (word_of call.now 5))) }
+    ensures silence_value { IfOk result (λ w. (w.silence ≡ number_of (word_of call.now 6)) × (w.told ≡ number_of (word_of call.now 8))) }
+{
+    let station = numbers::word(call, 4, "STATION", err)?;
+    let seconds = numbers::word(call, 5, "SECONDS", err)?;
+    Ok(Wanted {
+        station,
+        seconds,
+        silence: own(call, 6),
+        told: own(call, 8),
+    })
 }

@@ -1,5 +1,5 @@
 // A case: five numbers of four bytes, then the bytes of a program file.
-use ec20::Verdict;
+use ec20::{Accepted, Refusal};
 use records::u32_at;
 
 // What came of a case: whether the verdict is the one wanted, and its number, 0 for accepted.
@@ -10,29 +10,21 @@ pub struct Judged {
 }
 
 // The numbers after the length: refusal (0 for accepted), record told, records, steps.
-fn same(v: Verdict, h: &[u8; 20]) -> bool {
+fn same(v: Result<Accepted, Refusal>, h: &[u8; 20]) -> bool {
     let number = u32_at(h, 4);
     let told = u32_at(h, 8);
     let count = u32_at(h, 12);
     let w = u32_at(h, 16);
     match v {
-        Verdict::Accepted { records, steps } => {
-            (number == 0) & (told == 0) & (count == records) & (w == steps)
-        }
-        Verdict::Refused {
-            number: given,
-            record,
-        } => (number == given) & (told == record) & (count == 0) & (w == 0),
+        Ok(a) => (number == 0) & (told == 0) & (count == a.records) & (w == a.steps),
+        Err(r) => (number == r.number) & (told == r.at) & (count == 0) & (w == 0),
     }
 }
 
-fn number_of(v: Verdict) -> usize {
+fn number_of(v: Result<Accepted, Refusal>) -> usize {
     match v {
-        Verdict::Accepted {
-            records: _,
-            steps: _,
-        } => 0,
-        Verdict::Refused { number, record: _ } => number,
+        Ok(_) => 0,
+        Err(r) => r.number,
     }
 }
 

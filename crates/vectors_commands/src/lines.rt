@@ -28,9 +28,7 @@ fn letter(text: &[u8], i: usize) -> u8
 pub fn to_call(text: &[u8], call: &mut [u8])
     ensures { call.new ≡ call_of text.now (length call.old) }
 {
-    let mut i = 0;
-    while i < call.len() {
+    for i in 0..call.len() {
         call[i] = letter(text, i);
-        i += 1;
     }
 }

@@ -7,9 +7,12 @@
 mod lines;
 mod room;
 
+use calls::names::Command;
+use calls::output::{Descriptor, Outputs};
 use calls::results::Outcome;
 use calls::{STDOUT_FILENO, asked, text};
 use check::same;
+use std::fmt::Write;
 use std::fs::File;
 use std::random::RandomSource;
 use std::rt::{Clock, Files};
@@ -21,12 +24,9 @@ fn say(text: &[u8]) {
     io::write_all(STDOUT_FILENO, text);
 }
 
-fn tell(o: Outcome) {
-    say(b"= ");
-    io::print_decimal(STDOUT_FILENO, o.status as u64);
-    if o.replaced {
-        say(b" replaced");
-    }
+fn tell(outcome: Outcome) {
+    let mut out = Descriptor(STDOUT_FILENO);
+    let _ = write!(out, "= {outcome}");
 }
 
 // What the file of this name, `it` or `that`, is after the call. was: the file that it was before.
@@ -53,26 +53,20 @@ fn tell_file<R: Files>(rt: &R, name: &[u8], before: &[u8], after: &[u8], was: Op
 }
 
 // The command of a call, as the program ninhalto chooses it.
-fn chosen<R: Files<File = File> + RandomSource + Clock>(
-    rt: &R,
-    call: &[u8],
-    out: i32,
-    err: i32,
-) -> Outcome {
-    let command = asked::command(call);
-    if commands::scans(command) {
-        return commands::run(rt, command, call, out, err);
+fn chosen<R: Files<File = File> + RandomSource + Clock>(rt: &R, call: &[u8], out: i32) -> Outcome {
+    let to = Outputs {
+        out: Descriptor(out),
+        err: Descriptor(STDOUT_FILENO),
+    };
+    match asked::command(call) {
+        Some(command) if commands::scans(command) => commands::run(rt, command, call, to),
+        Some(Command::Slave) => serving::run(rt, call, to),
+        Some(command) if unit_commands::knows(command) => {
+            unit_commands::run(rt, command, call, to)
+        }
+        Some(command) if job_commands::knows(command) => job_commands::run(rt, call, to),
+        command => file_commands::run(rt, command, call, to),
     }
-    if command == asked::SLAVE {
-        return serving::run(rt, call, out, err);
-    }
-    if unit_commands::knows(command) {
-        return unit_commands::run(rt, command, call, out, err);
-    }
-    if job_commands::knows(command) {
-        return job_commands::run(rt, call, out, err);
-    }
-    file_commands::run(rt, command, call, out, err)
 }
 
 // A call over a copy of a file.
@@ -84,7 +78,7 @@ fn run_over<R: Files<File = File> + RandomSource + Clock>(
 ) {
     room::put(rt, before, b"it");
     let was = room::open_append(rt, "it");
-    tell(chosen(rt, call, STDOUT_FILENO, STDOUT_FILENO));
+    tell(chosen(rt, call, STDOUT_FILENO));
     tell_file(rt, b"it", before, after, was);
 }
 
@@ -94,7 +88,7 @@ fn run_both<R: Files<File = File> + RandomSource + Clock>(rt: &R, line: &[u8]) {
     room::put(rt, text::word(line, 3), b"that");
     let it = room::open_append(rt, "it");
     let that = room::open_append(rt, "that");
-    tell(chosen(rt, text::rest(line, 5), STDOUT_FILENO, STDOUT_FILENO));
+    tell(chosen(rt, text::rest(line, 5), STDOUT_FILENO));
     tell_file(rt, b"it", text::word(line, 1), text::word(line, 2), it);
     tell_file(rt, b"that", text::word(line, 3), text::word(line, 4), that);
 }
@@ -104,9 +98,9 @@ fn run<R: Files<File = File> + RandomSource + Clock>(rt: &R, line: &[u8]) {
     let before = text::word(line, 0);
     let call = text::rest(line, 2);
     if same(before, b"-") {
-        tell(chosen(rt, call, STDOUT_FILENO, STDOUT_FILENO));
+        tell(chosen(rt, call, STDOUT_FILENO));
     } else if same(before, b"closed") {
-        tell(chosen(rt, call, CLOSED, STDOUT_FILENO));
+        tell(chosen(rt, call, CLOSED));
     } else if same(before, b"both") {
         run_both(rt, line);
     } else {

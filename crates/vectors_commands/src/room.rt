@@ -1,6 +1,7 @@
 // The files in the folder that the program runs in.
 ghost use Rattle.io.specs.Counts.{IsPrefixLen};
 
+use calls::output::Descriptor;
 use calls::{STDERR_FILENO, STDOUT_FILENO, errors, files};
 use std::fs;
 use std::fs::OpenOptions;
@@ -10,14 +11,13 @@ use std::rt::Files;
 pub fn load(rt: &impl Files, path: &[u8], buf: &mut [u8; 65536]) -> usize
     ensures { IsPrefixLen result buf.new }
 {
-    let loaded = files::load(rt, path, STDOUT_FILENO, buf);
-    loaded.n
+    files::load(rt, path, Descriptor(STDOUT_FILENO), buf).unwrap_or(0)
 }
 
 fn write(rt: &impl Files, path: &[u8], bytes: &[u8]) {
     if let Ok(text) = std::str::from_utf8(path) {
         if let Err(why) = fs::write(rt, text, bytes) {
-            errors::failed(STDERR_FILENO, path, why);
+            errors::failed(Descriptor(STDERR_FILENO), path, why);
         }
     }
 }

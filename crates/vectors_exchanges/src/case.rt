@@ -2,7 +2,7 @@
 ghost use Rattle.std.specs.Prelude.{length, ◌≡◌};
 
 use cases::{drawing, octets, reading};
-use ec20::Exchanged;
+use ec20::Refusal;
 
 // What came of a case: whether the exchange gave what is wanted, and the number of that, 0 for exchanged.
 #[derive(Clone, Copy)]
@@ -61,23 +61,17 @@ fn most_words() -> [i16; 8192]
 }
 
 // The record told is always 0.
-fn same(e: Exchanged, number: usize) -> bool {
+fn same(e: Result<(), Refusal>, number: usize) -> bool {
     match e {
-        Exchanged::Done => number == 0,
-        Exchanged::Refused {
-            number: given,
-            record,
-        } => (number == given) & (record == 0),
+        Ok(()) => number == 0,
+        Err(r) => (number == r.number) & (r.at == 0),
     }
 }
 
 // The bytes of the words.
 fn bytes_of(d: &[i16], b: &mut [u8]) {
-    let n = b.len();
-    let mut i: usize = 0;
-    while i < n {
+    for i in 0..b.len() {
         octets::put(b, i, image::byte_of(d, i));
-        i += 1;
     }
 }
 

@@ -3,7 +3,7 @@ ghost use Rattle.std.specs.Prelude.{length, ◌≡◌};
 
 use cases::octets::least;
 use cases::{drawing, octets, reading};
-use jobs::Jobbed;
+use jobs::JobRefusal;
 
 // What came of a case: whether the job gave what is wanted, the number of that, 0 for done, and 17 if two lines meet, else 18.
 #[derive(Clone, Copy)]
@@ -85,30 +85,23 @@ fn put(lines: &mut [[u32; 3]], i: usize, start: u32, length: u32, place: u32) {
 
 // The next n lines of the file.
 fn read_lines(fd: i32, lines: &mut [[u32; 3]], n: usize) {
-    let mut i: usize = 0;
-    while i < n {
+    for i in 0..n {
         let start = reading::u32_from(fd) as u32;
         let length = reading::u32_from(fd) as u32;
         put(lines, i, start, length, reading::u32_from(fd) as u32);
-        i += 1;
     }
 }
 
-fn same(j: Jobbed, w: Wanted) -> bool {
+fn same(j: Result<usize, JobRefusal>, w: Wanted) -> bool {
     match j {
-        Jobbed::Refused {
-            number,
-            record,
-            line,
-            other,
-        } => {
-            (w.number == number)
-                & (w.record == record)
-                & (w.line == line)
-                & (w.other == other)
+        Err(r) => {
+            (w.number == r.number)
+                & (w.record == r.at)
+                & (w.line == r.line)
+                & (w.other == r.other)
                 & (w.moves == 0)
         }
-        Jobbed::Done { moves } => {
+        Ok(moves) => {
             (w.number == 0) & (w.record == 0) & (w.line == 0) & (w.other == 0) & (w.moves == moves)
         }
     }
@@ -116,22 +109,16 @@ fn same(j: Jobbed, w: Wanted) -> bool {
 
 // The changes that the file names are made, each at its offset.
 fn change(fd: i32, file: &mut [u8]) {
-    let n = reading::u16_from(fd);
-    let mut i: usize = 0;
-    while i < n {
+    for _change in 0..reading::u16_from(fd) {
         let at = reading::u32_from(fd);
         octets::put(file, at, reading::u8_from(fd));
-        i += 1;
     }
 }
 
 // The bytes of the words.
 fn bytes_of(d: &[i16], b: &mut [u8]) {
-    let n = b.len();
-    let mut i: usize = 0;
-    while i < n {
+    for i in 0..b.len() {
         octets::put(b, i, image::byte_of(d, i));
-        i += 1;
     }
 }
 

@@ -19,26 +19,21 @@ fn unmarked() -> [u8; 1000]
 
 // The words before `end` from `first` on are marked, if they are so used.
 fn mark(map: &mut [u8; 1000], used: bool, first: usize, end: usize) {
-    let mut i = first;
-    while i < end {
-        if used {
+    if used {
+        for i in first..end {
             bits::put_bit(map, i, 1);
         }
-        i += 1;
     }
 }
 
 // The maps of the runs that the file names.
 fn wanted(fd: i32, read: &mut [u8; 1000], written: &mut [u8; 1000]) {
-    let n = reading::u16_from(fd);
-    let mut k: usize = 0;
-    while k < n {
+    for _run in 0..reading::u16_from(fd) {
         let first = reading::u16_from(fd);
         let end = reading::u16_from(fd) + 1;
         let marks = reading::u8_from(fd);
         mark(read, marks % 2 == 1, first, end);
         mark(written, marks / 2 == 1, first, end);
-        k += 1;
     }
 }
 
@@ -50,11 +45,21 @@ fn agrees(
     read: &[u8; 1000],
     written: &[u8; 1000],
 ) -> bool {
-    let m = usemap::use_map(file);
-    (m.number == number)
-        & (m.at == record)
-        & check::same(&m.read, read)
-        & check::same(&m.written, written)
+    match usemap::use_map(file) {
+        Ok(m) => {
+            (number == 0)
+                & (record == 0)
+                & check::same(&m.read, read)
+                & check::same(&m.written, written)
+        }
+        Err(r) => {
+            let none = unmarked();
+            (r.number == number)
+                & (r.at == record)
+                & check::same(&none, read)
+                & check::same(&none, written)
+        }
+    }
 }
 
 fn part_agrees(

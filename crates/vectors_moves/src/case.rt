@@ -1,6 +1,6 @@
 // A case: the file, block and pool, what is wanted.
 use cases::{octets, reading};
-use ec20::Moved;
+use ec20::Refusal;
 
 // What came of a case: whether the move gave what is wanted, and the number of that, 0 for moved.
 #[derive(Clone, Copy)]
@@ -49,23 +49,18 @@ fn read_wanted(fd: i32) -> Answer {
     }
 }
 
-fn same(m: Moved, want: Answer) -> bool {
+fn same(m: Result<usize, Refusal>, want: Answer) -> bool {
     match m {
-        Moved::To { place } => (want.number == 0) & (want.record == 0) & (want.place == place),
-        Moved::Refused { number, record } => {
-            (want.number == number) & (want.record == record) & (want.place == 0)
-        }
+        Ok(place) => (want.number == 0) & (want.record == 0) & (want.place == place),
+        Err(r) => (want.number == r.number) & (want.record == r.at) & (want.place == 0),
     }
 }
 
 // The changes that the file names are made, each at its offset.
 fn change(fd: i32, file: &mut [u8]) {
-    let n = reading::u16_from(fd);
-    let mut i: usize = 0;
-    while i < n {
+    for _change in 0..reading::u16_from(fd) {
         let at = reading::u32_from(fd);
         octets::put(file, at, reading::u8_from(fd));
-        i += 1;
     }
 }
 

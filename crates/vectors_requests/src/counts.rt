@@ -4,7 +4,7 @@ ghost use Rattle.std.specs.Prelude.{◌≡◌};
 ghost use Rattle.vectors_requests.specs.Wants.{exception_count, reply_count, count_of};
 
 use cases::told::line;
-use modbus::Answered;
+use ec20::Refusal;
 
 // The count of a reply that begins so.
 fn of_reply(function: u8, code: u8) -> usize
@@ -31,13 +31,13 @@ fn of_exception(function: u8, code: u8) -> usize
 }
 
 // The count of an answer, whose reply stands in the buffer.
-pub fn sort(a: Answered, reply: &[u8]) -> usize
+pub fn sort(a: Result<Option<usize>, Refusal>, reply: &[u8]) -> usize
     ensures { result ≡ count_of a reply.now }
 {
     match a {
-        Answered::Refused { number, record } => number,
-        Answered::Silent => 0,
-        Answered::Reply { length } => {
+        Err(r) => r.number,
+        Ok(None) => 0,
+        Ok(Some(_)) => {
             if reply.len() < 3 {
                 return 19;
             }

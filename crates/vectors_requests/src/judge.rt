@@ -3,7 +3,7 @@ ghost use Rattle.std.specs.Prelude.{true, ◌≡◌};
 ghost use Rattle.vectors_requests.specs.Wants.{wants};
 
 use cases::reading;
-use modbus::Answered;
+use ec20::Refusal;
 
 // The refusal (0: none), the kind (0 refused, 1 silent, 2 reply), the bytes of the reply, and the checksums of M and the buffer after.
 #[derive(Clone, Copy)]
@@ -38,13 +38,10 @@ fn put_word(e: &mut [i16], i: usize, v: i16) {
 
 // As many words as the file says next are what they are wanted to be after the call.
 pub fn changes(fd: i32, e: &mut [i16]) {
-    let n = reading::u16_from(fd);
-    let mut i: usize = 0;
-    while i < n {
+    for _change in 0..reading::u16_from(fd) {
         let at = reading::u16_from(fd);
         let bits = reading::u16_from(fd);
         put_word(e, at, ints::of_bits16(bits as u64));
-        i += 1;
     }
 }
 
@@ -65,14 +62,12 @@ pub fn same_words(d: &[i16], e: &[i16]) -> bool
 }
 
 // The record told is always 0.
-pub fn same_answer(a: Answered, w: Wanted) -> bool
+pub fn same_answer(a: Result<Option<usize>, Refusal>, w: Wanted) -> bool
     ensures { result ≡ wants w a }
 {
     match a {
-        Answered::Refused { number, record } => (w.kind == 0)
-            & (w.number == number)
-            & (record == 0),
-        Answered::Silent => (w.kind == 1) & (w.number == 0),
-        Answered::Reply { length } => (w.kind == 2) & (w.number == 0) & (w.length == length),
+        Err(r) => (w.kind == 0) & (w.number == r.number) & (r.at == 0),
+        Ok(None) => (w.kind == 1) & (w.number == 0),
+        Ok(Some(length)) => (w.kind == 2) & (w.number == 0) & (w.length == length),
     }
 }

@@ -1,7 +1,8 @@
 // A case: the torn file, how the output is made beforehand, what is wanted.
 use cases::octets::least;
 use cases::{drawing, octets, reading};
-use torn::Salvaged;
+use ec20::Refusal;
+use torn::Saved;
 
 // What came of a case: whether the salvage gave what is wanted, and which answer that is: 0 done with the END that was found, 17 with one that was added, else
 // the number of the refusal.
@@ -55,21 +56,21 @@ fn read_wanted(fd: i32) -> Wanted {
     }
 }
 
-fn same(s: Salvaged, w: Wanted) -> bool {
+fn same(s: Result<Saved, Refusal>, w: Wanted) -> bool {
     match s {
-        Salvaged::Refused { number, record } => {
-            (w.number == number)
-                & (w.record == record)
+        Err(r) => {
+            (w.number == r.number)
+                & (w.record == r.at)
                 & (w.kept == 0)
                 & (w.added == 0)
                 & (w.rest == 0)
         }
-        Salvaged::Done { kept, added, rest } => {
+        Ok(saved) => {
             (w.number == 0)
                 & (w.record == 0)
-                & (w.kept == kept)
-                & (w.added == added)
-                & (w.rest == rest)
+                & (w.kept == saved.kept)
+                & (w.added == saved.added)
+                & (w.rest == saved.rest)
         }
     }
 }

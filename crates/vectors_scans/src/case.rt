@@ -3,7 +3,7 @@ use crate::judge::Answer;
 use crate::lent::Asked;
 use crate::{before, judge, lent, tables};
 use cases::{octets, reading};
-use ec20::Scanned;
+use ec20::{Refusal, Stop};
 
 // What came of a case: whether the scan gave what is wanted, what that was, and the budget.
 #[derive(Clone, Copy)]
@@ -56,7 +56,7 @@ fn call(
     d: &mut [i16],
     tv: &mut [i16],
     rest: &mut [u8],
-) -> Scanned {
+) -> Result<Stop, Refusal> {
     if a.plain {
         return engine::scan_unbudgeted(f, x, y, m, sm, t, d, tv, rest, a.elapsed);
     }
@@ -75,7 +75,7 @@ fn scan(
     d: &mut [i16],
     tv: &mut [i16],
     rest: &mut [u8],
-) -> Scanned {
+) -> Result<Stop, Refusal> {
     let xs = lent::size(a, 1, 32, x.len());
     let ys = lent::size(a, 2, 32, y.len());
     let ms = lent::size(a, 3, 250, m.len());

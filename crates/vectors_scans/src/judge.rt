@@ -1,8 +1,8 @@
 // The answer of a scan, and whether it is the one wanted.
-ghost use Rattle.std.specs.Prelude.{true, ◌≡◌};
+ghost use Rattle.std.specs.Prelude.{true, ◌≡◌, Ok};
 ghost use Rattle.vectors_scans.specs.Wants.{ran, told_by, plain_too};
 
-use ec20::{Report, Scanned};
+use ec20::{Refusal, Report, Stop};
 
 // The numbers of an answer: refusal (0: none) and its record; 0 refused, 1 ended, 2 watchdog; the steps, the record stopped at, the first
 // error and its record.
@@ -31,15 +31,23 @@ fn told_run(kind: usize, r: Report) -> Answer
     }
 }
 
-fn told(s: Scanned) -> Answer
+fn of_stop(stop: Stop) -> Answer
+    ensures { result ≡ told_by (Ok stop) }
+{
+    match stop {
+        Stop::Ended(r) => told_run(1, r),
+        Stop::Watchdog(r) => told_run(2, r),
+    }
+}
+
+fn told(s: Result<Stop, Refusal>) -> Answer
     ensures { result ≡ told_by s }
 {
     match s {
-        Scanned::Ended(r) => told_run(1, r),
-        Scanned::Watchdog(r) => told_run(2, r),
-        Scanned::Refused { number, record } => Answer {
-            number,
-            told: record,
+        Ok(stop) => of_stop(stop),
+        Err(r) => Answer {
+            number: r.number,
+            told: r.at,
             kind: 0,
             steps: 0,
             stop: 0,
@@ -61,7 +69,7 @@ fn same_answer(a: Answer, b: Answer) -> bool
         & (a.at == b.at)
 }
 
-pub fn agrees(s: Scanned, want: Answer) -> bool
+pub fn agrees(s: Result<Stop, Refusal>, want: Answer) -> bool
     ensures { (result ≡ true → told_by s ≡ want) × (told_by s ≡ want → result ≡ true) }
 {
     same_answer(told(s), want)

@@ -4,7 +4,7 @@ ghost use Rattle.std.specs.Prelude.{◌≡◌};
 ghost use Rattle.vectors_units.specs.Counted.{list_count, clash_count};
 
 use cases::told::line;
-use units::Clashed;
+use ec20::Refusal;
 
 // Whether the case agrees, the count of its answer, and that of its list.
 #[derive(Clone, Copy)]
@@ -22,12 +22,12 @@ pub fn of_list(n: usize) -> usize
 }
 
 // The count of a list's answer.
-pub fn of_clashes(a: Clashed) -> usize
+pub fn of_clashes(a: Result<usize, Refusal>) -> usize
     ensures { result ≡ clash_count a }
 {
     match a {
-        Clashed::Refused { number, record } => number,
-        Clashed::Clashes { count } => match count {
+        Err(r) => r.number,
+        Ok(count) => match count {
             0 => 0,
             2016 => 2,
             _ => 1,

@@ -3,7 +3,8 @@ use crate::counts::Judged;
 use crate::{counts, declarations, reports, tables};
 use cases::octets::least;
 use cases::reading;
-use units::{Clashed, Table};
+use ec20::Refusal;
+use units::Table;
 
 // The refusal (0: none), the record told, and the number of clashes.
 #[derive(Clone, Copy)]
@@ -24,12 +25,10 @@ fn read_wanted(fd: i32) -> Wanted {
     }
 }
 
-fn same_answer(a: Clashed, w: Wanted) -> bool {
+fn same_answer(a: Result<usize, Refusal>, w: Wanted) -> bool {
     match a {
-        Clashed::Refused { number, record } => (w.number == number)
-            & (w.record == record)
-            & (w.count == 0),
-        Clashed::Clashes { count } => (w.number == 0) & (w.record == 0) & (w.count == count),
+        Err(r) => (w.number == r.number) & (w.record == r.at) & (w.count == 0),
+        Ok(count) => (w.number == 0) & (w.record == 0) & (w.count == count),
     }
 }
 
@@ -51,7 +50,7 @@ fn same(a: &[[u32; 2]], b: &[[u32; 2]]) -> bool {
 }
 
 // The call over as much of the report as is lent. No case lends more than there is.
-fn called(t: Table, n: usize, room: usize, report: &mut [[u32; 2]]) -> Clashed {
+fn called(t: Table, n: usize, room: usize, report: &mut [[u32; 2]]) -> Result<usize, Refusal> {
     let size = least(room, report.len());
     clashes::clashes_in(t, n, &mut report[..size])
 }

@@ -3,10 +3,10 @@ use mathlib.Core.Path.{refl}
 use Rattle.units.specs.Report.{told_by_clashes}
 use Rattle.host.proofs.clash_lists.told.Goals as goal
 
-pub returns-in-Refused : goal.returns-in-Refused
+pub returns-in-Err : goal.returns-in-Err
 unfolding told_by_clashes
-returns-in-Refused c = rw c.in-Refused.is (record { number_after = refl; count_after = refl })
+returns-in-Err c = rw c.in-Err.is (record { number_after = refl; count_after = refl })
 
-pub returns-in-Clashes : goal.returns-in-Clashes
+pub returns-in-Ok : goal.returns-in-Ok
 unfolding told_by_clashes
-returns-in-Clashes c = rw c.in-Clashes.is (record { number_after = refl; count_after = refl })
+returns-in-Ok c = rw c.in-Ok.is (record { number_after = refl; count_after = refl })

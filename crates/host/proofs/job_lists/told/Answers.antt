@@ -3,10 +3,10 @@ use mathlib.Core.Path.{refl}
 use Rattle.jobs.specs.Job.{told_by_job}
 use Rattle.host.proofs.job_lists.told.Goals as goal
 
-pub returns-in-Refused : goal.returns-in-Refused
+pub returns-in-Err : goal.returns-in-Err
 unfolding told_by_job
-returns-in-Refused c = rw c.in-Refused.is (record { number_after = refl; at_after = refl; line_after = refl; other_after = refl })
+returns-in-Err c = rw c.in-Err.is (record { number_after = refl; at_after = refl; line_after = refl; other_after = refl })
 
-pub returns-in-Done : goal.returns-in-Done
+pub returns-in-Ok : goal.returns-in-Ok
 unfolding told_by_job
-returns-in-Done c = rw c.in-Done.is (record { number_after = refl; at_after = refl; line_after = refl; other_after = refl })
+returns-in-Ok c = rw c.in-Ok.is (record { number_after = refl; at_after = refl; line_after = refl; other_after = refl })

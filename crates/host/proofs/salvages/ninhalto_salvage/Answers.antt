@@ -3,10 +3,10 @@ use Rattle.host.proofs.ToldLaws.{salvaged}
 use Rattle.torn.specs.Salvage.{told_by_salvage}
 use Rattle.host.proofs.salvages.ninhalto_salvage.Goals as goal
 
-pub returns-in-Refused : goal.returns-in-Refused
+pub returns-in-Err : goal.returns-in-Err
 unfolding told_by_salvage
-returns-in-Refused c = let t = salvaged c.salvage.ensures c.in-Refused.is in record { out_after = t.0; number_after = t.1.0; at_after = t.1.1.0; kept_after = t.1.1.1.0; added_after = t.1.1.1.1.0; rest_after = t.1.1.1.1.1 }
+returns-in-Err c = let t = salvaged c.salvage.ensures c.in-Err.is in record { out_after = t.0; number_after = t.1.0; at_after = t.1.1.0; kept_after = t.1.1.1.0; added_after = t.1.1.1.1.0; rest_after = t.1.1.1.1.1 }
 
-pub returns-in-Done : goal.returns-in-Done
+pub returns-in-Ok : goal.returns-in-Ok
 unfolding told_by_salvage
-returns-in-Done c = let t = salvaged c.salvage.ensures c.in-Done.is in record { out_after = t.0; number_after = t.1.0; at_after = t.1.1.0; kept_after = t.1.1.1.0; added_after = t.1.1.1.1.0; rest_after = t.1.1.1.1.1 }
+returns-in-Ok c = let t = salvaged c.salvage.ensures c.in-Ok.is in record { out_after = t.0; number_after = t.1.0; at_after = t.1.1.0; kept_after = t.1.1.1.0; added_after = t.1.1.1.1.0; rest_after = t.1.1.1.1.1 }

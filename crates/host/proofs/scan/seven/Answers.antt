@@ -4,14 +4,9 @@ use Rattle.ec20.specs.Answers.{told_by_scan}
 use Rattle.host.specs.Seven.{seven_of}
 use Rattle.host.proofs.scan.seven.Goals as goal
 
-pub returns-in-Ended : goal.returns-in-Ended
-unfolding told_by_scan seven_of
-returns-in-Ended c = rw c.in-Ended.is refl
+pub returns-in-Ok : goal.returns-in-Ok
+returns-in-Ok c = rw c.in-Ok.is c.of_stop.ensures
 
-pub returns-in-Watchdog : goal.returns-in-Watchdog
+pub returns-in-Err : goal.returns-in-Err
 unfolding told_by_scan seven_of
-returns-in-Watchdog c = rw c.in-Watchdog.is refl
-
-pub returns-in-Refused : goal.returns-in-Refused
-unfolding told_by_scan seven_of
-returns-in-Refused c = rw c.in-Refused.is refl
+returns-in-Err c = rw c.in-Err.is refl
