@@ -13,7 +13,7 @@ ghost use Rattle.runs.specs.Ran.{ran_from, report_of};
 ghost use Rattle.step.specs.Ready.{Running};
 ghost use Rattle.std.specs.Prelude.{length, ◌≡◌};
 
-use ec20::{Control, Machine, Report, Scanned, Units};
+use ec20::{Control, Machine, Report, Stop, Units};
 use instructions::RowTable;
 
 // A scan starts with flow absent and both stacks empty, at record 0.
@@ -46,36 +46,32 @@ fn report(s: Machine, k: usize) -> Report
 }
 
 // Ended or watchdog, with the report.
-fn answer(s: Machine, k: usize) -> Scanned
-    ensures { result ≡ answer_of k s }
+#[tactic(auto, unfolding(ec20::specs::Scan::answer_of))]
+fn answer(s: Machine, k: usize) -> Stop
+    ensures { Ok result ≡ answer_of k s }
 {
     let r = report(s, k);
     if s.ended == 0 {
-        return Scanned::Watchdog(r);
+        return Stop::Watchdog(r);
     }
-    Scanned::Ended(r)
+    Stop::Ended(r)
 }
 
 // END is one step more, which is counted in k, and stays the record stopped at.
-fn ended(s: Machine, k: usize) -> Scanned
-    ensures { result ≡ answer_of k (stopped s) }
+#[tactic(auto, unfolding(ec20::specs::Scan::answer_of))]
+fn ended(s: Machine, k: usize) -> Stop
+    ensures { Ok result ≡ answer_of k (stopped s) }
 {
-    Scanned::Ended(report(s, k))
+    Stop::Ended(report(s, k))
 }
 
 // Whether the record due is END, as it is past the last record.
+#[tactic(auto, unfolding(crate::specs::Ends::ends))]
 fn at_end(f: &[u8], first: usize, count: usize, k: usize) -> bool
     requires { Held (length f.now) first count }
     ensures { result ≡ ends (control_of (code_of (records_from f.now first count) k)) }
 {
-    match decode::control_at(f, first, count, k) {
-        Control::Ends => true,
-        Control::Plain => false,
-        Control::Opens(_) => false,
-        Control::Closes => false,
-        Control::Jumps(_) => false,
-        Control::Marks(_) => false,
-    }
+    matches!(decode::control_at(f, first, count, k), Control::Ends)
 }
 
 // At most `budget` steps, from record 0 on. END is looked for ahead of each step and never given to one, so that no step has to be asked
@@ -95,9 +91,9 @@ pub fn run(
     t: &mut [u8],
     d: &mut [i16],
     tv: &mut [i16],
-) -> Scanned
-    requires { Running rows.now f.now first count goes.now u }
-    ensures { ran result (memory x.now y.new m.new sm.new t.new d.new tv.new) ≡ ran_from (program_in (records_from f.now first count)) u budget (memory x.now y.old m.old sm.old t.old d.old tv.old) }
+) -> Stop
+    requires { Running f.now first count goes.now u }
+    ensures { ran (Ok result) (memory x.now y.new m.new sm.new t.new d.new tv.new) ≡ ran_from (program_in (records_from f.now first count)) u budget (memory x.now y.old m.old sm.old t.old d.old tv.old) }
 {
     let mut left = [0usize; 8];
     let mut back = [0usize; 8];
