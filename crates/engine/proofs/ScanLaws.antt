@@ -16,7 +16,6 @@ use Rattle.ec20.specs.declared.Row.{Row}
 use Rattle.instructions.proofs.Rows.{row-past}
 use Rattle.records.specs.Ranges.{Held}
 use Rattle.step.specs.Ready.{Known}
-use Rattle.checker.proofs.Accepted.{accepted-framed, accepted-fine, whole-records}
 use Rattle.ec20.specs.Check.{check_of}
 use Rattle.ec20.specs.Code.{Program, program_in, program_of}
 use Rattle.ec20.specs.Devices.{ec20}
@@ -25,39 +24,32 @@ use Rattle.ec20.specs.Memory.{sized}
 use Rattle.ec20.specs.Operands.{is_known, fault_in, first_bad}
 use Rattle.ec20.specs.Plant.{Plant, leftovers_fit, units_in, rest_after}
 use Rattle.ec20.specs.Scan.{Ran, scan, leaving, run_scan, timed_scan, fitting, scan_for, scan_of}
-use Rattle.ec20.specs.Frame.{Frame}
-use Rattle.ec20.specs.Frame.{Whole}
+use Rattle.ec20.specs.declared.Frame.{Frame}
 use Rattle.ec20.specs.Scanned.{Refused}
 use Rattle.ec20.specs.declared.Units.{Units}
-use Rattle.ec20.specs.Verdict.{Verdict}
-use Rattle.ec20.specs.Verdict.{Accepted, Refused as Unfit}
-use Rattle.engine.specs.Made.{Fit, Made}
-use Rattle.engine.specs.declared.Ready.{Ready}
+use Rattle.engine.specs.Made.{Ready, Fit, Made}
+use Rattle.checker.specs.Accepted.{accepted_of}
+use Rattle.checker.proofs.Accepted.{taken, not_taken}
+use Rattle.ec20.specs.declared.Refusal.{Refusal}
+use Rattle.std.specs.Prelude.{Ok, Err, IfOk}
 
--- a scan of a file that was made ready
-module _ {f : List ℕ} {p : Ready} (made : Made f p) (e b : ℕ) (q : Plant) where
-  -- refused by the check
-  pub unfit-scan : p.accepted ≡ false → scan (Refused p.number p.at) q ≡ scan_of f e b q
-  unfolding scan_of scan_for check_of
-  unfit-scan h = rw (made.unfit h) refl
+-- a scan of a file that was made ready, and is refused by the check
+pub unfit-scan : {f : List ℕ} {d : Refusal} → Made f (Err d) → (e b : ℕ) (q : Plant) → scan (Err d) q ≡ scan_of f e b q
+unfolding scan_of scan_for check_of
+unfit-scan made e b q = rw made refl
 
+module _ {f : List ℕ} {w : Frame} (made : Fit f w) (e b : ℕ) (q : Plant) where
   -- an accepted one, by sizes, leftovers and elapsed milliseconds
-  pub nine : p.accepted ≡ true → {s l : Bool} → s ≡ sized ec20 q.mem → l ≡ leftovers_fit q.rest → (s && l && leb e 10000) ≡ false
-      → scan (Refused 9 0) q ≡ scan_of f e b q
+  pub nine : {s l : Bool} → s ≡ sized ec20 q.mem → l ≡ leftovers_fit q.rest → (s && l && leb e 10000) ≡ false → scan (Refused 9 0) q ≡ scan_of f e b q
   unfolding scan_of scan_for check_of fitting
-  nine a g k h = rw ((made.fit a).accepted.2, sym g, sym k, h) refl
+  nine g k h = rw (made.accepted.2, sym g, sym k, h) refl
 
   -- what is run has the units, and what is left the leftovers, of so many milliseconds
-  pub fits : (a : p.accepted ≡ true) {s l : Bool} {o : Ran} {u : Units} {rest : List ℕ} → s ≡ sized ec20 q.mem → l ≡ leftovers_fit q.rest
+  pub fits : {s l : Bool} {o : Ran} {u : Units} {rest : List ℕ} → s ≡ sized ec20 q.mem → l ≡ leftovers_fit q.rest
       → (s && l && leb e 10000) ≡ true → u ≡ units_in e q.rest → rest ≡ rest_after e q.rest
-      → o ≡ run_scan ec20 (program_in (records_from f p.first p.count)) u b q.mem → leaving rest o ≡ scan_of f e b q
+      → o ≡ run_scan ec20 (program_in (records_from f w.first w.count)) u b q.mem → leaving rest o ≡ scan_of f e b q
   unfolding scan_of scan_for check_of fitting timed_scan
-  fits a g k h x y o = rw (o, x, y, (made.fit a).program, (made.fit a).accepted.2, sym g, sym k, h) refl
-
--- a whole frame names the file's records
-pub whole-program : (f : List ℕ) {x : Frame} {first count : ℕ} → framed f ≡ true → x ≡ frame_of f → x ≡ Whole first count → program_in (records_from f first count) ≡ program_of f
-unfolding program_of
-whole-program f h g w = ap program_in (whole-records f g w)
+  fits g k h x y o = rw (o, x, y, made.program, made.accepted.2, sym g, sym k, h) refl
 
 -- a row that is known stands in the table
 in_table : (n : ℕ) → (row_of n).known ≡ true → n < 56
@@ -74,30 +66,16 @@ records-known f first count e k h =
     let fine = no-fault (λ j. fault_in ec20 (record_from f (first + 20 * j))) 0 count e k (omega arith) (omega arith) in
     in_table _ (both (row_of (byte_at f (first + 20 * k))).known _ (record-fine ec20 (record_from f (first + 20 * k)) fine).0).0
 
--- so it is with the records that a whole frame names
-pub whole-known : (f : List ℕ) {x : Frame} {first count : ℕ} → first_bad ec20 (records_of f) ≡ Fine → x ≡ frame_of f → x ≡ Whole first count → Known f first count
-whole-known f {first = first} {count = count} e g w =
-    records-known f first count (subst (λ (rs : Records). first_bad ec20 rs ≡ Fine) (sym (whole-records f g w)) e)
-
--- ---- what is made ready of a file
-
--- of a refused one
-pub made-unfit : (f : List ℕ) (p : Ready) {v : Verdict} {n k : ℕ} → v ≡ check_of f → v ≡ Unfit n k → (p.accepted ≡ false) × (p.number ≡ n) × (p.at ≡ k)
-    → Made f p
-made-unfit f p e g h =
-    record { unfit = λ _. sym e ∙ g ∙ sym (ap₂ Unfit h.1 h.2); fit = λ a. differ (sym a ∙ h.0) }
-
--- of an accepted one
-pub made-fit : (f : List ℕ) (p : Ready) {v : Verdict} {n w : ℕ} {x : Frame} {first count : ℕ} → v ≡ check_of f → v ≡ Accepted n w → x ≡ frame_of f
-    → x ≡ Whole first count → Held (length f) first count → (p.accepted ≡ true) × (p.first ≡ first) × (p.count ≡ count) → Made f p
-made-fit f p {n = n} {w = w} e g k o held h =
-    let whole : frame_of f ≡ Whole p.first p.count = sym k ∙ o ∙ sym (ap₂ Whole h.1 h.2) in
+-- what the check's frame tells is what was made ready
+pub made-ready : (f : List ℕ) (p : Ready) → p ≡ accepted_of f → IfOk p (λ w. Held (length f) w.first w.count) → Made f p
+unfolding program_of
+made-ready f (Err r) e h = sym (not_taken f e)
+made-ready f (Ok w) e h =
+    let t = taken f e in
+    let same : records_from f w.first w.count ≡ records_of f = rw (t.first, t.count) refl in
     record {
-      unfit = λ a. differ (sym h.0 ∙ a);
-      fit = λ a. record {
-        accepted = (n, w, sym e ∙ g);
-        held = rw (h.1, h.2) held;
-        program = whole-program f (accepted-framed f e g) (sym whole) refl;
-        known = whole-known f (accepted-fine f e g) (sym whole) refl;
-      };
+      accepted = (t.records, t.steps, t.verdict);
+      held = h;
+      program = ap program_in same;
+      known = records-known f w.first w.count (subst (λ (rs : Records). first_bad ec20 rs ≡ Fine) (sym same) t.fine);
     }

@@ -6,9 +6,9 @@ ghost use Rattle.ec20.specs.Memory.{memory, sized};
 ghost use Rattle.ec20.specs.Plant.{plant};
 ghost use Rattle.ec20.specs.Scan.{scan, scan_of, plain_scan};
 ghost use Rattle.engine.specs.Made.{Made, Goes};
-ghost use Rattle.std.specs.Prelude.{true, false, ◌≡◌};
+ghost use Rattle.std.specs.Prelude.{◌≡◌};
 
-use ec20::{DEFAULT_BUDGET, Frame, Scanned, Verdict};
+use ec20::{DEFAULT_BUDGET, Frame, Refusal, Stop};
 
 // "X 32 bytes, Y 32, M 250, SM 32, T contacts 32", 8,000 D words and 256 T values.
 fn sizes_fit(x: &[u8], y: &[u8], m: &[u8], sm: &[u8], t: &[u8], d: &[i16], tv: &[i16]) -> bool
@@ -23,57 +23,14 @@ fn sizes_fit(x: &[u8], y: &[u8], m: &[u8], sm: &[u8], t: &[u8], d: &[i16], tv: &
         & (tv.len() == 256)
 }
 
-// What the check finds of a file, once for any number of scans of it: whether it accepts the file; if not, the number that refuses it and the record
-// told; if so, where its records begin and how many there are.
-#[derive(Clone, Copy)]
-pub struct Ready {
-    pub accepted: bool,
-    pub number: usize,
-    pub at: usize,
-    pub first: usize,
-    pub count: usize,
-}
-
-// Of a file that the check refuses.
-fn unfit(number: usize, at: usize) -> Ready
-    ensures { (result.accepted ≡ false) × (result.number ≡ number) × (result.at ≡ at) }
-{
-    Ready {
-        accepted: false,
-        number,
-        at,
-        first: 0,
-        count: 0,
-    }
-}
-
-// Of an accepted file, whose records are `count` from the byte `first` on.
-fn fit(first: usize, count: usize) -> Ready
-    ensures { (result.accepted ≡ true) × (result.first ≡ first) × (result.count ≡ count) }
-{
-    Ready {
-        accepted: true,
-        number: 0,
-        at: 0,
-        first,
-        count,
-    }
-}
+// What the check finds of a file, once for any number of scans of it: where its records begin and how many there are; or why it is refused.
+pub type Ready = Result<Frame, Refusal>;
 
 // The file is checked.
 pub fn make_ready(f: &[u8]) -> Ready
     ensures { Made f.now result }
 {
-    match checker::check(f) {
-        Verdict::Refused { number, record } => unfit(number, record),
-        Verdict::Accepted {
-            records: _,
-            steps: _,
-        } => match records::frame(f) {
-            Frame::Whole { first, count } => fit(first, count),
-            Frame::Broken => unfit(1, 0),
-        },
-    }
+    checker::accept(f)
 }
 
 // Where FOR 0 and CJ go, looked up once for any number of scans; of a refused file nothing is.
@@ -81,10 +38,10 @@ pub fn look_up(f: &[u8], p: Ready) -> [usize; 2000]
     requires { Made f.now p }
     ensures { Goes f.now p result }
 {
-    if p.accepted {
-        return jumps::prepare(f, p.first, p.count);
+    match p {
+        Ok(Frame { first, count }) => jumps::prepare(f, first, count),
+        Err(_) => [0usize; 2000],
     }
-    [0usize; 2000]
 }
 
 // A scan of a file that was made ready, over the lent memory and leftovers, with elapsed milliseconds and a budget of steps: what a scan of the file is,
@@ -103,31 +60,21 @@ pub fn scan_ready(
     rest: &mut [u8],
     elapsed: u32,
     budget: u32,
-) -> Scanned
+) -> Result<Stop, Refusal>
     requires made { Made f.now p }
     requires goes { Goes f.now p goes.now }
     ensures { scan result (plant (memory x.now y.new m.new sm.new t.new d.new tv.new) rest.new) ≡ scan_of f.now elapsed budget (plant (memory x.now y.old m.old sm.old t.old d.old tv.old) rest.old) }
 {
-    if p.accepted {
-        let e = elapsed as usize;
-        if sizes_fit(x, y, m, sm, t, d, tv) & leftovers::fit(rest) & (e <= 10000) {
-            let rows = instructions::table();
-            let u = leftovers::share(rest, e);
-            bits::put_bit(sm, 0, 1);
-            let n = budget as usize;
-            return runs::run(
-                &rows, f, p.first, p.count, goes, u, n, x, y, m, sm, t, d, tv,
-            );
-        }
-        return Scanned::Refused {
-            number: 9,
-            record: 0,
-        };
+    let Frame { first, count } = p?;
+    let e = elapsed as usize;
+    if sizes_fit(x, y, m, sm, t, d, tv) & leftovers::fit(rest) & (e <= 10000) {
+        let rows = instructions::table();
+        let u = leftovers::share(rest, e);
+        bits::put_bit(sm, 0, 1);
+        let n = budget as usize;
+        return Ok(runs::run(&rows, f, first, count, goes, u, n, x, y, m, sm, t, d, tv));
     }
-    Scanned::Refused {
-        number: p.number,
-        record: p.at,
-    }
+    Err(Refusal { number: 9, at: 0 })
 }
 
 // A scan of a file over the lent memory and leftovers, with elapsed milliseconds and a budget of steps. A refused call changes nothing.
@@ -143,7 +90,7 @@ pub fn scan_file(
     rest: &mut [u8],
     elapsed: u32,
     budget: u32,
-) -> Scanned
+) -> Result<Stop, Refusal>
     ensures { scan result (plant (memory x.now y.new m.new sm.new t.new d.new tv.new) rest.new) ≡ scan_of f.now elapsed budget (plant (memory x.now y.old m.old sm.old t.old d.old tv.old) rest.old) }
 {
     let p = make_ready(f);
@@ -163,7 +110,7 @@ pub fn scan_unbudgeted(
     tv: &mut [i16],
     rest: &mut [u8],
     elapsed: u32,
-) -> Scanned
+) -> Result<Stop, Refusal>
     ensures { scan result (plant (memory x.now y.new m.new sm.new t.new d.new tv.new) rest.new) ≡ plain_scan f.now elapsed (plant (memory x.now y.old m.old sm.old t.old d.old tv.old) rest.old) }
 {
     scan_file(f, x, y, m, sm, t, d, tv, rest, elapsed, DEFAULT_BUDGET)
