@@ -2,7 +2,7 @@
 use Prim.Native.Nat.{ℕ, ◌+◌, ◌*◌, ◌<◌}
 use mathlib.Core.Bool.{Bool, true, false, ◌&&◌}
 use mathlib.Core.List.{List}
-use mathlib.Core.Path.{◌≡◌, refl, sym, ap, ap₂, subst, ◌∙◌}
+use mathlib.Core.Path.{◌≡◌, refl, sym, ap, subst, ◌∙◌}
 use native.Mathlib.Decide.{dec_lt}
 use native.Mathlib.Omega.{arith}
 use lib.Dec.{leb}
@@ -17,9 +17,9 @@ use Rattle.instructions.proofs.Rows.{row-past}
 use Rattle.records.specs.Ranges.{Held}
 use Rattle.step.specs.Ready.{Known}
 use Rattle.ec20.specs.Check.{check_of}
-use Rattle.ec20.specs.Code.{Program, program_in, program_of}
+use Rattle.ec20.specs.Code.{program_in, program_of}
 use Rattle.ec20.specs.Devices.{ec20}
-use Rattle.ec20.specs.File.{Records, framed, frame_of, byte_at, record_from, records_from, records_of}
+use Rattle.ec20.specs.File.{Records, byte_at, record_from, records_from, records_of}
 use Rattle.ec20.specs.Memory.{sized}
 use Rattle.ec20.specs.Operands.{is_known, fault_in, first_bad}
 use Rattle.ec20.specs.Plant.{Plant, leftovers_fit, units_in, rest_after}
@@ -34,9 +34,9 @@ use Rattle.ec20.specs.declared.Refusal.{Refusal}
 use Rattle.std.specs.Prelude.{Ok, Err, IfOk}
 
 -- a scan of a file that was made ready, and is refused by the check
-pub unfit-scan : {f : List ℕ} {d : Refusal} → Made f (Err d) → (e b : ℕ) (q : Plant) → scan (Err d) q ≡ scan_of f e b q
+pub unfit-scan : (f : List ℕ) (d : Refusal) → Made f (Err d) → (e b : ℕ) (q : Plant) → scan (Err d) q ≡ scan_of f e b q
 unfolding scan_of scan_for check_of
-unfit-scan made e b q = rw made refl
+unfit-scan f d made e b q = rw made refl
 
 module _ {f : List ℕ} {w : Frame} (made : Fit f w) (e b : ℕ) (q : Plant) where
   -- an accepted one, by sizes, leftovers and elapsed milliseconds
