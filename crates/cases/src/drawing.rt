@@ -8,11 +8,9 @@ fn rising(b: &mut [u8], first: u8, by: u8)
     ensures { b.new ≡ risen_bytes (length b.old) first by }
 {
     let mut v = first;
-    let mut i = 0;
-    while i < b.len() {
+    for i in 0..b.len() {
         b[i] = v;
-        v = std::num::wrapping_add_u8(v, by);
-        i += 1;
+        v = v.wrapping_add(by);
     }
 }
 
@@ -34,7 +32,7 @@ fn word(rule: u8, draw: u8) -> u16
     ensures { result ≡ word_of rule draw }
 {
     if rule == 3 {
-        return std::num::wrapping_add_u16((draw % 16) as u16, 65532);
+        return u16::from(draw % 16).wrapping_add(65532);
     }
     let edges = [0u16, 1, 65535, 32767, 32768, 2, 1000, 34464];
     edges[(draw % 8) as usize]
@@ -44,7 +42,7 @@ fn word(rule: u8, draw: u8) -> u16
 fn past(i: usize, bits: usize) -> usize
     ensures { result ≡ i - bits }
 {
-    if bits < i { i - bits } else { 0 }
+    i.saturating_sub(bits)
 }
 
 // The state for byte i, after the one for the byte before it. The second byte of a word has no draw of its own.
@@ -77,11 +75,9 @@ fn draw(b: &mut [u8], bits: usize, rule: u8, seed: u32)
     ensures { b.new ≡ drawn_bytes (length b.old) bits rule seed }
 {
     let mut x = seed;
-    let mut i = 0;
-    while i < b.len() {
+    for i in 0..b.len() {
         x = next(x, bits, i);
         b[i] = byte(rule, bits, i, x);
-        i += 1;
     }
 }
 

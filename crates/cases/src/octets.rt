@@ -24,23 +24,15 @@ fn byte_at(b: &[u8], i: usize) -> u8
 pub fn copy(from: &[u8], to: &mut [u8])
     ensures { to.new ≡ copied from.now (length to.old) }
 {
-    let mut i = 0;
-    while i < to.len() {
+    for i in 0..to.len() {
         to[i] = byte_at(from, i);
-        i += 1;
     }
 }
 
 pub fn least(a: usize, b: usize) -> usize
     ensures { (result ≡ min a b) × (result ≤ b) }
 {
-    if a <= b { a } else { b }
-}
-
-fn wide(b: u8) -> u32
-    ensures { result ≡ b }
-{
-    b as u32
+    a.min(b)
 }
 
 // Sums of the checksum, below 65521.
@@ -61,11 +53,9 @@ pub fn checksum(b: &[u8]) -> u64
 {
     let mut one: u32 = 1;
     let mut two: u32 = 0;
-    let mut i = 0;
-    while i < b.len() {
-        one = sum(one, wide(b[i]));
+    for &byte in b {
+        one = sum(one, u32::from(byte));
         two = sum(two, one);
-        i += 1;
     }
     joined(two, one)
 }

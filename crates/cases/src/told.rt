@@ -10,7 +10,7 @@ pub fn one_more(met: &mut [usize], k: usize)
     ensures { met.new ≡ one_more k met.old }
 {
     if k < met.len() {
-        met[k] = std::num::wrapping_add_usize(met[k], 1);
+        met[k] = met[k].wrapping_add(1);
     }
 }
 
@@ -51,15 +51,13 @@ pub fn line(text: &[u8], n: usize) {
 
 // How often each refusal was met, from number `first` to number `last`.
 pub fn refusals(met: &[usize], first: usize, last: usize) {
-    let mut k = first;
-    while k < met.len() {
+    for k in first..met.len() {
         if k > last {
             return;
         }
         say(b"refusal ");
         say_number(k);
         line(b"", met[k]);
-        k += 1;
     }
 }
 

@@ -13,7 +13,7 @@ loop-i-preserved c =
     let l = c.loop-i in
     let s = l.invariant.0 in (
       filling-more _ (omega (arith, s.size)) s l.invariant.1,
-      c.wrapping_add_u8-v.ensures.value ∙ ap (λ (x : ℕ). (x + a.by) % 256) l.invariant.1 ∙ step-more 256 a.first a.by l.i,
+      ap (λ (x : ℕ). (x + a.by) % 256) l.invariant.1 ∙ step-more 256 a.first a.by l.i,
     )
 
 pub returns : goal.returns

@@ -1,10 +1,7 @@
 -- The loop's invariant: the first i bytes are filled, and v is the next. Assumes nothing.
-use Rattle.std.proofs.Common.{◌≡◌, ◌+◌, ◌-◌, ◌*◌, ◌%◌, length}
+use Rattle.std.proofs.Common.{◌≡◌, ◌+◌, ◌*◌, ◌%◌}
 use Rattle.cases.proofs.Filling.{Filling}
 use Rattle.cases.proofs.drawing.rising.Given as goal
 
 abbrev pub invariant-loop-i : goal.invariant-loop-i
 invariant-loop-i l = (Filling l.initial.b l.i (λ j. (l.first + l.by * j) % 256) l.b) × (l.v ≡ (l.first + l.by * l.i) % 256)
-
-abbrev pub decreases-loop-i : goal.decreases-loop-i
-decreases-loop-i l = length l.initial.b - l.i
