@@ -8,7 +8,7 @@ use native.Mathlib.Omega.{arith}
 use lib.Dec.{eqb, leb, ltb}
 use lib.IntN.{pos, neg_ℤ}
 use lib.ListN.{length}
-use borrow.Author.Tests.{eqb-true, leb-true, ltb-true}
+use borrow.Author.Tests.{eqb-true, eq-eqb, leb-true, ltb-true}
 use Rattle.ec20.proofs.EachRow.{every, row-test}
 use Rattle.ec20.proofs.Forms.{same_role}
 use Rattle.ec20.proofs.Laws.{no-fault}
@@ -26,7 +26,7 @@ use Rattle.ec20.specs.Check.{check_for}
 use Rattle.ec20.specs.Code.{instr_by, instr_of, code_of, program_of}
 use Rattle.ec20.specs.Devices.{Device, kind_constant, kind_x, kind_y, kind_m, kind_sm, kind_t, kind_d, limit_of}
 use Rattle.ec20.specs.File.{count_of}
-use Rattle.ec20.specs.Forms.{form_is, form_contact, form_join, form_branch, form_coil, form_compare, form_timer, form_for, form_next, form_jump, form_label, form_end, form_three, form_two, form_one}
+use Rattle.ec20.specs.Forms.{form_code, form_is, form_nop, form_contact, form_join, form_branch, form_coil, form_compare, form_timer, form_for, form_next, form_jump, form_label, form_end, form_three, form_two, form_one}
 use Rattle.ec20.specs.Memory.{Memory, bits_of}
 use Rattle.ec20.specs.Mnemonics.{DIV, DDIV}
 use Rattle.ec20.specs.Numbers.{half}
@@ -40,7 +40,7 @@ use Rattle.moving.specs.Rename.{words_of, written_by}
 use Rattle.refusals.proofs.Operands.{all-allowed}
 use Rattle.refusals.specs.Records.{first, second, third}
 use Rattle.refusals.specs.Table.{record_at}
-use Rattle.demands.specs.Named.{Filled, Bits, Group, Words, OneTimer, Source, constant, from_group, from_timer, from_words, Target, to_group, to_words, Named}
+use Rattle.demands.specs.Named.{Filled, Bits, Group, Words, OneTimer, Source, constant, from_group, from_timer, from_words, Target, to_group, to_words, two_sources, Named}
 use Rattle.demands.proofs.Lengths.{Sizes}
 
 -- ---- the table: which places a form of instruction has
@@ -60,36 +60,36 @@ module _ (form : Form) (test : ℕ → Row → Bool) where
   abbrev rule : ℕ → Row → Bool
   rule n w = not (form_is w.form form) || test n w
 
-  of-form : ((n : ℕ) → rule n unknown ≡ true) → every rule 0 table ≡ true → (n : ℕ) → form_is (row_of n).form form ≡ true → test n (row_of n) ≡ true
-  of-form u e n q = implied (form_is (row_of n).form form) (test n (row_of n)) (row-test rule u e n) q
+  of-form : ((n : ℕ) → rule n unknown ≡ true) → every rule 0 table ≡ true → (n : ℕ) → (row_of n).form ≡ form → test n (row_of n) ≡ true
+  of-form u e n q = implied (form_is (row_of n).form form) (test n (row_of n)) (row-test rule u e n) (eq-eqb _ _ (ap form_code q))
 
-contact-row : (n : ℕ) → form_is (row_of n).form form_contact ≡ true → role_is role_bit_read (row_of n).first ≡ true
+contact-row : (n : ℕ) → (row_of n).form ≡ form_contact → role_is role_bit_read (row_of n).first ≡ true
 unfolding table
 contact-row = of-form form_contact (λ n w. role_is role_bit_read w.first) (λ n. refl) refl
 
-coil-row : (n : ℕ) → form_is (row_of n).form form_coil ≡ true → role_is role_bit_written (row_of n).first ≡ true
+coil-row : (n : ℕ) → (row_of n).form ≡ form_coil → role_is role_bit_written (row_of n).first ≡ true
 unfolding table
 coil-row = of-form form_coil (λ n w. role_is role_bit_written w.first) (λ n. refl) refl
 
-timer-row : (n : ℕ) → form_is (row_of n).form form_timer ≡ true → role_is role_timer (row_of n).first ≡ true
+timer-row : (n : ℕ) → (row_of n).form ≡ form_timer → role_is role_timer (row_of n).first ≡ true
 unfolding table
 timer-row = of-form form_timer (λ n w. role_is role_timer w.first) (λ n. refl) refl
 
-compare-row : (n : ℕ) → form_is (row_of n).form form_compare ≡ true
+compare-row : (n : ℕ) → (row_of n).form ≡ form_compare
     → (reads (row_of n) (row_of n).first && reads (row_of n) (row_of n).second && eqb (width_of n) 16) ≡ true
 unfolding table
 compare-row = of-form form_compare (λ n w. reads w w.first && reads w w.second && eqb w.first.width 16) (λ n. refl) refl
 
-three-row : (n : ℕ) → form_is (row_of n).form form_three ≡ true
+three-row : (n : ℕ) → (row_of n).form ≡ form_three
     → (reads (row_of n) (row_of n).first && reads (row_of n) (row_of n).second && writes n (row_of n) (row_of n).third) ≡ true
 unfolding table
 three-row = of-form form_three (λ n w. reads w w.first && reads w w.second && writes n w w.third) (λ n. refl) refl
 
-two-row : (n : ℕ) → form_is (row_of n).form form_two ≡ true → (reads (row_of n) (row_of n).first && writes n (row_of n) (row_of n).second) ≡ true
+two-row : (n : ℕ) → (row_of n).form ≡ form_two → (reads (row_of n) (row_of n).first && writes n (row_of n) (row_of n).second) ≡ true
 unfolding table
 two-row = of-form form_two (λ n w. reads w w.first && writes n w w.second) (λ n. refl) refl
 
-one-row : (n : ℕ) → form_is (row_of n).form form_one ≡ true → writes n (row_of n) (row_of n).first ≡ true
+one-row : (n : ℕ) → (row_of n).form ≡ form_one → writes n (row_of n) (row_of n).first ≡ true
 unfolding table
 one-row = of-form form_one (λ n w. writes n w w.first) (λ n. refl) refl
 
@@ -310,64 +310,71 @@ module _ (v : Device) (full : Filled v) (c : Memory) (s : Sizes v c) where
   -- a record that 3 does not refuse
   record-named : (r : Rec) → operands_ok v (row_of r.number) r ≡ true → Named c (instr_of r)
   unfolding instr_by
-  record-named r ok =
-      let n = r.number in
-      let w = row_of r.number in
-      let f = w.form in
-      let o1 = all-allowed v r ok first in
-      let o2 = all-allowed v r ok second in
-      let o3 = all-allowed v r ok third in
-      picked (Named c) (form_is f form_contact) _ _
-      (λ q. bit-read r.first (at_bit_read v w.first r.first (contact-row n q) o1))
-      (λ _. picked (Named c) (form_is f form_join) _ _ (λ _. tt)
-      (λ _. picked (Named c) (form_is f form_branch) _ _ (λ _. tt)
-      (λ _. picked (Named c) (form_is f form_coil) _ _
-      (λ q. bit-written r.first (at_bit_written v w.first r.first (coil-row n q) o1))
-      (λ _. picked (Named c) (form_is f form_compare) _ _
-      (λ q.
-      let t = each (reads w w.first) (reads w w.second) (eqb w.first.width 16) (compare-row n q) in
-      let z : w.first.width ≡ 16 = eqb-true _ _ t.2 in (
-        subst (λ (k : ℕ). Source k c r.first) z (reads-source r.first w w.first t.0 o1),
-        subst (λ (k : ℕ). Source k c r.second) z (reads-source r.second w w.second t.1 o2),
-      ))
-      (λ _. picked (Named c) (form_is f form_timer) _ _
-      (λ q. timer r.first (at_timer v w.first r.first (timer-row n q) o1))
-      (λ _. picked (Named c) (form_is f form_for) _ _ (λ _. tt)
-      (λ _. picked (Named c) (form_is f form_next) _ _ (λ _. tt)
-      (λ _. picked (Named c) (form_is f form_jump) _ _ (λ _. tt)
-      (λ _. picked (Named c) (form_is f form_label) _ _ (λ _. tt)
-      (λ _. picked (Named c) (form_is f form_end) _ _ (λ _. tt)
-      (λ _. picked (Named c) (form_is f form_three) _ _
-      (λ q.
-      let t = each (reads w w.first) (reads w w.second) (writes n w w.third) (three-row n q) in
-      record {
-        first = reads-source r.first w w.first t.0 o1;
-        second = λ _. reads-source r.second w w.second t.1 o2;
-        no_second = λ z. differ (sym q ∙ z);
-        target = writes-target r.third n w.third t.2 o3;
-        flags = has-flags;
-      })
-      (λ q3. picked (Named c) (form_is f form_two) _ _
-      (λ q.
-      let t = both (reads w w.first) (writes n w w.second) (two-row n q) in
-      record {
-        first = reads-source r.first w w.first t.0 o1;
-        second = λ z. differ (sym z ∙ q3);
-        no_second = λ _. refl;
-        target = writes-target r.second n w.second t.1 o2;
-        flags = has-flags;
-      })
-      (λ _. picked (Named c) (form_is f form_one) _ _
-      (λ q.
-      let t = writes-target r.first n w.first (one-row n q) o1 in
-      record {
-        first = read-too r.first n t;
-        second = λ z. differ (sym z ∙ q3);
-        no_second = λ _. refl;
-        target = t;
-        flags = has-flags;
-      })
-      (λ _. tt))))))))))))))
+  record-named r ok = by-form w.form refl
+    where
+      n : ℕ
+      n = r.number
+
+      w : Row
+      w = row_of n
+
+      o1 : allowed v w.first r.first ≡ true
+      o1 = all-allowed v r ok first
+
+      o2 : allowed v w.second r.second ≡ true
+      o2 = all-allowed v r ok second
+
+      o3 : allowed v w.third r.third ≡ true
+      o3 = all-allowed v r ok third
+
+      two_for : (f : Form) → w.form ≡ f → two_sources n ≡ form_is f form_three
+      two_for f q = ap (λ (g : Form). form_is g form_three) q
+
+      by-form : (f : Form) → w.form ≡ f → Named c (instr_by f r)
+      by-form form_nop q = tt
+      by-form form_contact q = bit-read r.first (at_bit_read v w.first r.first (contact-row n q) o1)
+      by-form form_join q = tt
+      by-form form_branch q = tt
+      by-form form_coil q = bit-written r.first (at_bit_written v w.first r.first (coil-row n q) o1)
+      by-form form_compare q =
+          let t = each (reads w w.first) (reads w w.second) (eqb w.first.width 16) (compare-row n q) in
+          let z : w.first.width ≡ 16 = eqb-true _ _ t.2 in (
+            subst (λ (k : ℕ). Source k c r.first) z (reads-source r.first w w.first t.0 o1),
+            subst (λ (k : ℕ). Source k c r.second) z (reads-source r.second w w.second t.1 o2),
+          )
+      by-form form_timer q = timer r.first (at_timer v w.first r.first (timer-row n q) o1)
+      by-form form_for q = tt
+      by-form form_next q = tt
+      by-form form_jump q = tt
+      by-form form_label q = tt
+      by-form form_end q = tt
+      by-form form_three q =
+          let t = each (reads w w.first) (reads w w.second) (writes n w w.third) (three-row n q) in
+          record {
+            first = reads-source r.first w w.first t.0 o1;
+            second = λ _. reads-source r.second w w.second t.1 o2;
+            no_second = λ z. differ (sym (two_for form_three q) ∙ z);
+            target = writes-target r.third n w.third t.2 o3;
+            flags = has-flags;
+          }
+      by-form form_two q =
+          let t = both (reads w w.first) (writes n w w.second) (two-row n q) in
+          record {
+            first = reads-source r.first w w.first t.0 o1;
+            second = λ z. differ (sym z ∙ two_for form_two q);
+            no_second = λ _. refl;
+            target = writes-target r.second n w.second t.1 o2;
+            flags = has-flags;
+          }
+      by-form form_one q =
+          let t = writes-target r.first n w.first (one-row n q) o1 in
+          record {
+            first = read-too r.first n t;
+            second = λ z. differ (sym z ∙ two_for form_one q);
+            no_second = λ _. refl;
+            target = t;
+            flags = has-flags;
+          }
 
   -- NAMED: each record of an accepted program
   pub code-named : (f : List ℕ) (n w : ℕ) → check_for v f ≡ Accepted n w → (k : ℕ) → Named c ((program_of f).code k)

@@ -3,8 +3,7 @@ use Prim.Native.Nat.{ℕ, ◌<◌}
 use mathlib.Core.Bool.{Bool, true, false}
 use mathlib.Core.Path.{◌≡◌, refl, sym, ap, ap₂, fun_ext, ◌∙◌}
 use lib.Dec.{ltb}
-use borrow.Author.Tests.{ltb-true}
-use Rattle.ec20.proofs.Forms.{form_is-true}
+use borrow.Author.Tests.{ltb-true, eq-eqb}
 use Rattle.ec20.proofs.Tests.{differ, picked}
 use Rattle.ec20.specs.Basics.{pick}
 use Rattle.ec20.specs.declared.Form.{Form}
@@ -19,7 +18,7 @@ use Rattle.ec20.specs.File.{Records}
 use Rattle.ec20.specs.Move.{Block}
 use Rattle.ec20.specs.Operands.{in_d}
 use Rattle.ec20.specs.Table.{row_of}
-use Rattle.ec20.specs.Forms.{form_is, form_contact, form_join, form_branch, form_coil, form_compare, form_timer, form_for, form_next, form_jump, form_label, form_end, form_three, form_two, form_one}
+use Rattle.ec20.specs.Forms.{form_code, form_is, form_nop, form_contact, form_join, form_branch, form_coil, form_compare, form_timer, form_for, form_next, form_jump, form_label, form_end, form_three, form_two, form_one}
 use Rattle.moving.specs.Rename.{rename_operand, rename_rec, rename_instr, rename_program, Along, Whole}
 use Rattle.moving.proofs.Operand.{rename-other}
 use Rattle.refusals.specs.Records.{OperandAt, first, second, third}
@@ -65,52 +64,65 @@ module _ {v : Device} {rs : Records} {b : Block} {q : ℕ} (pl : Placed v rs b q
   form = (row_of r.number).form
 
   -- the first operand of a form that has a bit, passes or a label there
-  first-same : (i : Form) → form_is form i ≡ true → has_bare i ≡ true → rename_operand σ r.first ≡ r.first
-  first-same i e y = bare-same two (fits first) (bare-first r.number (ap has_bare (form_is-true form i e) ∙ y))
+  first-same : (f : Form) → form ≡ f → has_bare f ≡ true → rename_operand σ r.first ≡ r.first
+  first-same f e y = bare-same two (fits first) (bare-first r.number (ap has_bare e ∙ y))
 
-  timer-same : form_is form form_timer ≡ true → (rename_operand σ r.first ≡ r.first) × (rename_operand σ r.second ≡ r.second)
+  form-yes : (f : Form) → form ≡ f → form_is form f ≡ true
+  form-yes f e = eq-eqb _ _ (ap form_code e)
+
+  timer-same : form ≡ form_timer → (rename_operand σ r.first ≡ r.first) × (rename_operand σ r.second ≡ r.second)
   timer-same e =
-      let n = timer-both r.number e in
+      let n = timer-both r.number (form-yes form_timer e) in
       (bare-same two (fits first) n.0, bare-same two (fits second) n.1)
 
-  pub instr-renamed : instr_of (rename_rec σ r) ≡ rename_instr σ (instr_of r)
+  renamed-by : (f : Form) → form ≡ f → instr_by f (rename_rec σ r) ≡ rename_instr σ (instr_by f r)
   unfolding instr_by rename_rec rename_instr
-  instr-renamed =
-      pick-renamed σ (form_is form form_contact) _ _ _ _ (λ e. rw (first-same form_contact e refl)) (λ _.
-      pick-renamed σ (form_is form form_join) _ _ _ _ (λ _. refl) (λ _.
-      pick-renamed σ (form_is form form_branch) _ _ _ _ (λ _. refl) (λ _.
-      pick-renamed σ (form_is form form_coil) _ _ _ _ (λ e. rw (first-same form_coil e refl)) (λ _.
-      pick-renamed σ (form_is form form_compare) _ _ _ _ (λ _. refl) (λ _.
-      pick-renamed σ (form_is form form_timer) _ _ _ _ (λ e. rw ((timer-same e).0, (timer-same e).1)) (λ _.
-      pick-renamed σ (form_is form form_for) _ _ _ _ (λ e. rw (first-same form_for e refl)) (λ _.
-      pick-renamed σ (form_is form form_next) _ _ _ _ (λ _. refl) (λ _.
-      pick-renamed σ (form_is form form_jump) _ _ _ _ (λ e. rw (first-same form_jump e refl)) (λ _.
-      pick-renamed σ (form_is form form_label) _ _ _ _ (λ e. rw (first-same form_label e refl)) (λ _.
-      pick-renamed σ (form_is form form_end) _ _ _ _ (λ _. refl) (λ _.
-      pick-renamed σ (form_is form form_three) _ _ _ _ (λ _. refl) (λ _.
-      pick-renamed σ (form_is form form_two) _ _ _ _ (λ _. rw (none-renamed σ)) (λ _.
-      pick-renamed σ (form_is form form_one) _ _ _ _ (λ _. rw (none-renamed σ)) (λ _. refl))))))))))))))
+  renamed-by form_nop e = refl
+  renamed-by form_contact e = rw (first-same form_contact e refl)
+  renamed-by form_join e = refl
+  renamed-by form_branch e = refl
+  renamed-by form_coil e = rw (first-same form_coil e refl)
+  renamed-by form_compare e = refl
+  renamed-by form_timer e = rw ((timer-same e).0, (timer-same e).1)
+  renamed-by form_for e = rw (first-same form_for e refl)
+  renamed-by form_next e = refl
+  renamed-by form_jump e = rw (first-same form_jump e refl)
+  renamed-by form_label e = rw (first-same form_label e refl)
+  renamed-by form_end e = refl
+  renamed-by form_three e = refl
+  renamed-by form_two e = rw (none-renamed σ)
+  renamed-by form_one e = rw (none-renamed σ)
+
+  pub instr-renamed : instr_of (rename_rec σ r) ≡ rename_instr σ (instr_of r)
+  unfolding rename_rec
+  instr-renamed = renamed-by form refl
+
+  whole-by : (f : Form) → form ≡ f → Whole σ (instr_by f r)
+  unfolding instr_by Whole
+  whole-by form_nop e = tt
+  whole-by form_contact e = tt
+  whole-by form_join e = tt
+  whole-by form_branch e = tt
+  whole-by form_coil e = tt
+  whole-by form_compare e = tt
+  whole-by form_timer e = tt
+  whole-by form_for e = tt
+  whole-by form_next e = tt
+  whole-by form_jump e = tt
+  whole-by form_label e = tt
+  whole-by form_end e = tt
+  whole-by form_three e =
+      let w = three-words r.number (form-yes form_three e) in
+      (along two (fits first) _ w.0, along two (fits second) _ w.1, along two (fits third) _ w.2)
+  whole-by form_two e =
+      let w = two-words r.number (form-yes form_two e) in
+      (along two (fits first) _ w.0, none-along σ _, along two (fits second) _ w.1)
+  whole-by form_one e =
+      let w = one_word r.number (form-yes form_one e) in
+      (along two (fits first) _ w.0, none-along σ _, along two (fits first) _ w.1)
 
   pub instr-whole : Whole σ (instr_of r)
-  unfolding instr_by Whole
-  instr-whole =
-      picked (Whole σ) (form_is form form_contact) _ _ (λ _. tt) (λ _.
-      picked (Whole σ) (form_is form form_join) _ _ (λ _. tt) (λ _.
-      picked (Whole σ) (form_is form form_branch) _ _ (λ _. tt) (λ _.
-      picked (Whole σ) (form_is form form_coil) _ _ (λ _. tt) (λ _.
-      picked (Whole σ) (form_is form form_compare) _ _ (λ _. tt) (λ _.
-      picked (Whole σ) (form_is form form_timer) _ _ (λ _. tt) (λ _.
-      picked (Whole σ) (form_is form form_for) _ _ (λ _. tt) (λ _.
-      picked (Whole σ) (form_is form form_next) _ _ (λ _. tt) (λ _.
-      picked (Whole σ) (form_is form form_jump) _ _ (λ _. tt) (λ _.
-      picked (Whole σ) (form_is form form_label) _ _ (λ _. tt) (λ _.
-      picked (Whole σ) (form_is form form_end) _ _ (λ _. tt) (λ _.
-      picked (Whole σ) (form_is form form_three) _ _
-      (λ e. let w = three-words r.number e in (along two (fits first) _ w.0, along two (fits second) _ w.1, along two (fits third) _ w.2)) (λ _.
-      picked (Whole σ) (form_is form form_two) _ _
-      (λ e. let w = two-words r.number e in (along two (fits first) _ w.0, none-along σ _, along two (fits second) _ w.1)) (λ _.
-      picked (Whole σ) (form_is form form_one) _ _
-      (λ e. let w = one_word r.number e in (along two (fits first) _ w.0, none-along σ _, along two (fits first) _ w.1)) (λ _. tt))))))))))))))
+  instr-whole = whole-by form refl
 
 -- the program of records
 module _ {v : Device} {rs : Records} {b : Block} {q : ℕ} (pl : Placed v rs b q) where

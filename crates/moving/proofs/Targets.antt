@@ -1,26 +1,26 @@
 -- The records' targets: what the use map marks of a record covers what the record's instruction writes.
-use Prim.Native.Nat.{ℕ, zero, suc, ◌+◌, ◌*◌}
+use Prim.Native.Nat.{ℕ, ◌*◌}
 use mathlib.Core.Bool.{Bool, true, false, ◌&&◌, ◌||◌}
-use mathlib.Core.List.{List, [], ◌∷◌}
-use mathlib.Core.Path.{◌≡◌, refl, sym, ap, ap₂, subst, ◌∙◌}
+use mathlib.Core.Path.{◌≡◌, refl, sym, ap, ap₂, ◌∙◌}
 use native.Mathlib.Omega.{arith}
 use lib.Dec.{eqb}
-use lib.ListN.{get_or}
 use borrow.Author.Tests.{eqb-true}
+use Rattle.ec20.specs.declared.Form.{Form}
 use Rattle.ec20.specs.declared.Operand.{Operand}
 use Rattle.ec20.specs.declared.Place.{Place}
 use Rattle.ec20.specs.declared.Row.{Row}
 use Rattle.ec20.specs.declared.Rec.{Rec}
 use Rattle.ec20.specs.Basics.{pick}
 use Rattle.ec20.specs.Operands.{start_of, extent_of}
-use Rattle.ec20.specs.Table.{table, row_of, unknown}
-use Rattle.ec20.specs.Forms.{form_is, form_contact, form_join, form_branch, form_coil, form_compare, form_timer, form_for, form_next, form_jump, form_label, form_end, form_three, form_two, form_one}
+use Rattle.ec20.specs.Table.{table, row_of}
+use Rattle.ec20.specs.Forms.{form_nop, form_contact, form_join, form_branch, form_coil, form_compare, form_timer, form_for, form_next, form_jump, form_label, form_end, form_three, form_two, form_one}
 use Rattle.ec20.specs.Roles.{is_written}
 use Rattle.ec20.specs.Code.{instr_by, instr_of}
 use Rattle.ec20.specs.Words.{is}
 use Rattle.ec20.specs.UseMap.{holds, some_operand, record_has}
+use Rattle.ec20.proofs.EachRow.{row-test}
 use Rattle.ec20.proofs.Ranges.{within-yes}
-use Rattle.ec20.proofs.Tests.{both, neither, differ, picked}
+use Rattle.ec20.proofs.Tests.{both, neither, differ}
 use Rattle.moving.specs.Rename.{words_of, written_by}
 use Rattle.moving.proofs.Operand.{extent-place}
 use Rattle.moving.proofs.Spared.{Spares, Spared}
@@ -32,45 +32,33 @@ abbrev target_ok : ℕ → Row → Place → Bool
 target_ok n w p =
     is_written p && eqb p.extent (pick (is n 35 52) (2 * words_of w.first.width) (words_of w.first.width))
 
-abbrev row_ok : ℕ → Row → Bool
-row_ok n w =
-    pick (form_is w.form form_three) (target_ok n w w.third)
-    (pick (form_is w.form form_two) (target_ok n w w.second)
-    (pick (form_is w.form form_one) (target_ok n w w.first)
-    true))
+-- at the form's target, where it has one
+abbrev form_ok : Form → ℕ → Row → Bool
+form_ok form_nop n w = true
+form_ok form_contact n w = true
+form_ok form_join n w = true
+form_ok form_branch n w = true
+form_ok form_coil n w = true
+form_ok form_compare n w = true
+form_ok form_timer n w = true
+form_ok form_for n w = true
+form_ok form_next n w = true
+form_ok form_jump n w = true
+form_ok form_label n w = true
+form_ok form_end n w = true
+form_ok form_three n w = target_ok n w w.third
+form_ok form_two n w = target_ok n w w.second
+form_ok form_one n w = target_ok n w w.first
 
-abbrev rows_ok : ℕ → List Row → Bool
-rows_ok n [] = true
-rows_ok n (w ∷ l) = row_ok n w && rows_ok (suc n) l
-
-rows_at : (l : List Row) (k n : ℕ) → rows_ok k l ≡ true → row_ok (k + n) (get_or l n unknown) ≡ true
-rows_at [] k n e = refl
-rows_at (w ∷ l) k zero e =
-    let z : k + zero ≡ k = omega arith in
-    subst (λ (i : ℕ). row_ok i w ≡ true) (sym z) (both (row_ok k w) (rows_ok (suc k) l) e).0
-rows_at (w ∷ l) k (suc n) e =
-    let z : k + suc n ≡ suc k + n = omega arith in
-    subst (λ (i : ℕ). row_ok i (get_or l n unknown) ≡ true) (sym z) (rows_at l (suc k) n (both (row_ok k w) (rows_ok (suc k) l) e).1)
-
-every-row : (n : ℕ) → row_ok n (row_of n) ≡ true
-unfolding row_of table
-every-row n =
-    let z : 0 + n ≡ n = omega arith in
-    subst (λ (i : ℕ). row_ok i (get_or table n unknown) ≡ true) z (rows_at table 0 n refl)
+every-row : (n : ℕ) → form_ok (row_of n).form n (row_of n) ≡ true
+unfolding table
+every-row n = row-test (λ n w. form_ok w.form n w) (λ n. refl) refl n
 
 -- ---- of a record
 
 -- the test by which a word is marked written
 abbrev pub Marks : ℕ → Place → Operand → Bool
 Marks i p o = is_written p && holds i p o
-
-first_of : (t a b : Bool) → t ≡ true → pick t a b ≡ true → a ≡ true
-first_of true a b e h = h
-first_of false a b e h = differ (sym e)
-
-second-of : (t a b : Bool) → t ≡ false → pick t a b ≡ true → b ≡ true
-second-of true a b e h = differ e
-second-of false a b e h = h
 
 -- a target that does not mark word i spares it
 place-spares : (i n : ℕ) (w : Row) (p : Place) (o : Operand) → w ≡ row_of n → target_ok n w p ≡ true → Marks i p o ≡ false → Spares i (written_by n) o
@@ -84,29 +72,30 @@ place-spares i n w p o r ok e k j l q =
 -- a record that does not mark word i makes an instruction that does not write it
 pub record-spares : (i : ℕ) (r : Rec) → record_has (Marks i) r ≡ false → Spared i (instr_of r)
 unfolding instr_by some_operand
-record-spares i r e =
-    let w = row_of r.number in
-    let f = w.form in
-    let ok = every-row r.number in
-    let ab = neither (Marks i w.first r.first || Marks i w.second r.second) (Marks i w.third r.third) e in
-    let a = neither (Marks i w.first r.first) (Marks i w.second r.second) ab.0 in
-    picked (Spared i) (form_is f form_contact) _ _ (λ _. tt)
-    (λ _. picked (Spared i) (form_is f form_join) _ _ (λ _. tt)
-    (λ _. picked (Spared i) (form_is f form_branch) _ _ (λ _. tt)
-    (λ _. picked (Spared i) (form_is f form_coil) _ _ (λ _. tt)
-    (λ _. picked (Spared i) (form_is f form_compare) _ _ (λ _. tt)
-    (λ _. picked (Spared i) (form_is f form_timer) _ _ (λ _. tt)
-    (λ _. picked (Spared i) (form_is f form_for) _ _ (λ _. tt)
-    (λ _. picked (Spared i) (form_is f form_next) _ _ (λ _. tt)
-    (λ _. picked (Spared i) (form_is f form_jump) _ _ (λ _. tt)
-    (λ _. picked (Spared i) (form_is f form_label) _ _ (λ _. tt)
-    (λ _. picked (Spared i) (form_is f form_end) _ _ (λ _. tt)
-    (λ _. picked (Spared i) (form_is f form_three) _ _
-    (λ q. place-spares i r.number w w.third r.third refl (first_of (form_is f form_three) _ _ q ok) ab.1)
-    (λ q3. picked (Spared i) (form_is f form_two) _ _
-    (λ q. place-spares i r.number w w.second r.second refl (first_of (form_is f form_two) _ _ q (second-of (form_is f form_three) _ _ q3 ok)) a.1)
-    (λ q2. picked (Spared i) (form_is f form_one) _ _
-    (λ q.
-    place-spares i r.number w w.first r.first refl
-    (first_of (form_is f form_one) _ _ q (second-of (form_is f form_two) _ _ q2 (second-of (form_is f form_three) _ _ q3 ok))) a.0)
-    (λ _. tt))))))))))))))
+record-spares i r e = by-form w.form (every-row r.number)
+  where
+    w : Row
+    w = row_of r.number
+
+    ab : (Marks i w.first r.first || Marks i w.second r.second ≡ false) × (Marks i w.third r.third ≡ false)
+    ab = neither (Marks i w.first r.first || Marks i w.second r.second) (Marks i w.third r.third) e
+
+    a : (Marks i w.first r.first ≡ false) × (Marks i w.second r.second ≡ false)
+    a = neither (Marks i w.first r.first) (Marks i w.second r.second) ab.0
+
+    by-form : (f : Form) → form_ok f r.number w ≡ true → Spared i (instr_by f r)
+    by-form form_nop ok = tt
+    by-form form_contact ok = tt
+    by-form form_join ok = tt
+    by-form form_branch ok = tt
+    by-form form_coil ok = tt
+    by-form form_compare ok = tt
+    by-form form_timer ok = tt
+    by-form form_for ok = tt
+    by-form form_next ok = tt
+    by-form form_jump ok = tt
+    by-form form_label ok = tt
+    by-form form_end ok = tt
+    by-form form_three ok = place-spares i r.number w w.third r.third refl ok ab.1
+    by-form form_two ok = place-spares i r.number w w.second r.second refl ok a.1
+    by-form form_one ok = place-spares i r.number w w.first r.first refl ok a.0

@@ -16,7 +16,7 @@ use Rattle.ec20.specs.declared.Rung.{Rung}
 use Rattle.ec20.specs.Basics.{pick}
 use Rattle.ec20.specs.Code.{instr_by, instr_of, code_of, program_of}
 use Rattle.ec20.specs.File.{records_of}
-use Rattle.ec20.specs.Forms.{form_is, form_contact, form_join, form_branch, form_coil, form_compare, form_timer, form_for, form_next, form_jump, form_label, form_end, form_three, form_two, form_one}
+use Rattle.ec20.specs.Forms.{form_nop, form_contact, form_join, form_branch, form_coil, form_compare, form_timer, form_for, form_next, form_jump, form_label, form_end, form_three, form_two, form_one}
 use Rattle.ec20.specs.Rung.{rung, is_load, starts, both_empty, load_ok, action_ok, branch_ok, keeps, after_load, branches_after, after_action, no_flow, after_record}
 use Rattle.ec20.specs.Table.{table, row_of}
 use Rattle.ec20.proofs.EachRow.{row-test}
@@ -44,53 +44,46 @@ Formed (Word n a b t) = 32 ≤ n
 
 -- the numbers that a form has in the table
 abbrev fits : Form → ℕ → Bool
-fits form n =
-    pick (form_is form form_contact) (leb 1 n && leb n 6)
-    (pick (form_is form form_join) (leb 7 n && leb n 8)
-    (pick (form_is form form_branch) (leb 9 n && leb n 11)
-    (pick (form_is form form_coil) (leb 12 n && leb n 14)
-    (pick (form_is form form_compare) (leb 15 n && leb n 17)
-    (pick (form_is form form_timer) true
-    (pick (form_is form form_for) true
-    (pick (form_is form form_next) true
-    (pick (form_is form form_jump) true
-    (pick (form_is form form_label) true
-    (pick (form_is form form_end) true
-    (pick (form_is form form_three) (leb 32 n)
-    (pick (form_is form form_two) (leb 32 n)
-    (pick (form_is form form_one) (leb 32 n)
-    true)))))))))))))
+fits form_nop n = true
+fits form_contact n = leb 1 n && leb n 6
+fits form_join n = leb 7 n && leb n 8
+fits form_branch n = leb 9 n && leb n 11
+fits form_coil n = leb 12 n && leb n 14
+fits form_compare n = leb 15 n && leb n 17
+fits form_timer n = true
+fits form_for n = true
+fits form_next n = true
+fits form_jump n = true
+fits form_label n = true
+fits form_end n = true
+fits form_three n = leb 32 n
+fits form_two n = leb 32 n
+fits form_one n = leb 32 n
 
 row_fits : (n : ℕ) → fits (row_of n).form n ≡ true
 unfolding table
 row_fits n = row-test (λ n w. fits w.form n) (λ n. refl) refl n
-
-in_both : (t : Bool) (x y : Instr) (a b : Bool) → (a ≡ true → Formed x) → (b ≡ true → Formed y) → pick t a b ≡ true → Formed (pick t x y)
-in_both true x y a b f g e = f e
-in_both false x y a b f g e = g e
 
 within : (a n b : ℕ) → (leb a n && leb n b) ≡ true → (a ≤ n) × (n ≤ b)
 within a n b e = let q = both (leb a n) (leb n b) e in (leb-true _ _ q.0, leb-true _ _ q.1)
 
 formed-by : (form : Form) (r : Rec) → fits form r.number ≡ true → Formed (instr_by form r)
 unfolding instr_by
-formed-by form r =
-    let n : ℕ = r.number in
-    in_both (form_is form form_contact) _ _ _ _ (within 1 n 6)
-    (in_both (form_is form form_join) _ _ _ _ (within 7 n 8)
-    (in_both (form_is form form_branch) _ _ _ _ (within 9 n 11)
-    (in_both (form_is form form_coil) _ _ _ _ (within 12 n 14)
-    (in_both (form_is form form_compare) _ _ _ _ (within 15 n 17)
-    (in_both (form_is form form_timer) _ _ _ _ (λ e. tt)
-    (in_both (form_is form form_for) _ _ _ _ (λ e. tt)
-    (in_both (form_is form form_next) _ _ _ _ (λ e. tt)
-    (in_both (form_is form form_jump) _ _ _ _ (λ e. tt)
-    (in_both (form_is form form_label) _ _ _ _ (λ e. tt)
-    (in_both (form_is form form_end) _ _ _ _ (λ e. tt)
-    (in_both (form_is form form_three) _ _ _ _ (leb-true 32 n)
-    (in_both (form_is form form_two) _ _ _ _ (leb-true 32 n)
-    (in_both (form_is form form_one) _ _ _ _ (leb-true 32 n)
-    (λ e. tt))))))))))))))
+formed-by form_nop r e = tt
+formed-by form_contact r e = within 1 r.number 6 e
+formed-by form_join r e = within 7 r.number 8 e
+formed-by form_branch r e = within 9 r.number 11 e
+formed-by form_coil r e = within 12 r.number 14 e
+formed-by form_compare r e = within 15 r.number 17 e
+formed-by form_timer r e = tt
+formed-by form_for r e = tt
+formed-by form_next r e = tt
+formed-by form_jump r e = tt
+formed-by form_label r e = tt
+formed-by form_end r e = tt
+formed-by form_three r e = leb-true 32 r.number e
+formed-by form_two r e = leb-true 32 r.number e
+formed-by form_one r e = leb-true 32 r.number e
 
 -- so has each instruction of a file
 pub formed : (f : List ℕ) (k : ℕ) → Formed ((program_of f).code k)
@@ -101,44 +94,39 @@ formed f k =
 
 -- and the number of the instruction that a known record makes is the record's own
 abbrev numbered : Form → ℕ → ℕ
-numbered form n =
-    pick (form_is form form_contact) n
-    (pick (form_is form form_join) n
-    (pick (form_is form form_branch) n
-    (pick (form_is form form_coil) n
-    (pick (form_is form form_compare) n
-    (pick (form_is form form_timer) 18
-    (pick (form_is form form_for) 19
-    (pick (form_is form form_next) 20
-    (pick (form_is form form_jump) 21
-    (pick (form_is form form_label) 22
-    (pick (form_is form form_end) 23
-    (pick (form_is form form_three) n
-    (pick (form_is form form_two) n
-    (pick (form_is form form_one) n
-    0)))))))))))))
-
-either_way : (t : Bool) (x y : Instr) (a b : ℕ) → number_of x ≡ a → number_of y ≡ b → number_of (pick t x y) ≡ pick t a b
-either_way true x y a b e f = e
-either_way false x y a b e f = f
+numbered form_nop n = 0
+numbered form_contact n = n
+numbered form_join n = n
+numbered form_branch n = n
+numbered form_coil n = n
+numbered form_compare n = n
+numbered form_timer n = 18
+numbered form_for n = 19
+numbered form_next n = 20
+numbered form_jump n = 21
+numbered form_label n = 22
+numbered form_end n = 23
+numbered form_three n = n
+numbered form_two n = n
+numbered form_one n = n
 
 number_by : (form : Form) (r : Rec) → number_of (instr_by form r) ≡ numbered form r.number
 unfolding instr_by
-number_by form r =
-    either_way (form_is form form_contact) _ _ _ _ refl
-    (either_way (form_is form form_join) _ _ _ _ refl
-    (either_way (form_is form form_branch) _ _ _ _ refl
-    (either_way (form_is form form_coil) _ _ _ _ refl
-    (either_way (form_is form form_compare) _ _ _ _ refl
-    (either_way (form_is form form_timer) _ _ _ _ refl
-    (either_way (form_is form form_for) _ _ _ _ refl
-    (either_way (form_is form form_next) _ _ _ _ refl
-    (either_way (form_is form form_jump) _ _ _ _ refl
-    (either_way (form_is form form_label) _ _ _ _ refl
-    (either_way (form_is form form_end) _ _ _ _ refl
-    (either_way (form_is form form_three) _ _ _ _ refl
-    (either_way (form_is form form_two) _ _ _ _ refl
-    (either_way (form_is form form_one) _ _ _ _ refl refl)))))))))))))
+number_by form_nop r = refl
+number_by form_contact r = refl
+number_by form_join r = refl
+number_by form_branch r = refl
+number_by form_coil r = refl
+number_by form_compare r = refl
+number_by form_timer r = refl
+number_by form_for r = refl
+number_by form_next r = refl
+number_by form_jump r = refl
+number_by form_label r = refl
+number_by form_end r = refl
+number_by form_three r = refl
+number_by form_two r = refl
+number_by form_one r = refl
 
 row-numbered : (n : ℕ) → (not (row_of n).known || eqb (numbered (row_of n).form n) n) ≡ true
 unfolding table
