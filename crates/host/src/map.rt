@@ -22,8 +22,10 @@ pub extern "C" fn ninhalto_map(
         Ok(m) => {
             *number = 0;
             *at = 0;
-            *read = m.read;
-            *written = m.written;
+            let r = m.read;
+            let w = m.written;
+            *read = r;
+            *written = w;
         }
         Err(refusal) => {
             *number = refusal.number;
