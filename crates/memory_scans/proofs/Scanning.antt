@@ -2,7 +2,7 @@
 use Prim.Native.Nat.{ℕ}
 use mathlib.Core.Bool.{Bool, true, false}
 use mathlib.Core.List.{List, []}
-use mathlib.Core.Path.{◌≡◌, refl, sym, ap, subst, ◌∙◌}
+use mathlib.Core.Path.{◌≡◌, refl, sym, ap, ◌∙◌}
 use native.Mathlib.Omega.{arith}
 use lib.Dec.{eqb}
 use lib.IntN.{ℤ}
@@ -20,8 +20,6 @@ use Rattle.ec20.specs.Scan.{Scan, scan, fitting, scan_if, scan_for, scan_of}
 use Rattle.ec20.specs.Scanned.{Scanned}
 use Rattle.ec20.specs.Scanned.{Refused}
 use Rattle.ec20.specs.Verdict.{Verdict}
-use Rattle.ec20.specs.Verdict.{Accepted, Refused as Unfit}
-use Rattle.image.proofs.Inverse.{plant-sizes}
 use Rattle.image.specs.Image.{plant_of, image_of, Sizes}
 use Rattle.memories.proofs.After.{tables_after, bytes_after, no_byte}
 use Rattle.turns.proofs.Inputs.{with_inputs}

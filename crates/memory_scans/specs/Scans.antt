@@ -8,7 +8,6 @@ use Rattle.ec20.specs.Scan.{Scan, scan, scan_of}
 use Rattle.ec20.specs.Scanned.{Scanned}
 use Rattle.ec20.specs.Scanned.{Refused}
 use Rattle.ec20.specs.Verdict.{Verdict}
-use Rattle.ec20.specs.Verdict.{Accepted, Refused as Unfit}
 
 -- the answer over a memory file of another size
 unfoldable pub unsized : Verdict → Scanned

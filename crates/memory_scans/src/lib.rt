@@ -42,12 +42,13 @@ pub fn scan_ready(
     ensures by_index { (m k : ℕ) → result ≡ Refused m k → image.new ≡ image.old }
 {
     let mut tables = tables::split(image);
+    let x = tables.x;
     let n = entries(size);
     let scanned = engine::scan_ready(
         p,
         goes,
         f,
-        &tables.x[..n],
+        &x[..n],
         &mut tables.y,
         &mut tables.m,
         &mut tables.sm,
@@ -63,7 +64,13 @@ pub fn scan_ready(
 }
 
 // The same of any file, which is made ready first.
-pub fn scan(f: &[u8], image: &mut [u8; 16892], size: usize, elapsed: u32, budget: u32) -> Result<Stop, Refusal>
+pub fn scan(
+    f: &[u8],
+    image: &mut [u8; 16892],
+    size: usize,
+    elapsed: u32,
+    budget: u32,
+) -> Result<Stop, Refusal>
     ensures value { result ≡ (scan_in f.now size elapsed budget (plant_of image.old)).answer }
     ensures image_after { plant_of image.new ≡ (scan_in f.now size elapsed budget (plant_of image.old)).plant }
     ensures image_after_2 { image.new ≡ image_of (scan_in f.now size elapsed budget (plant_of image.old)).plant }
