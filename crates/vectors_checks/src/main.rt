@@ -10,18 +10,16 @@ use std::os::fd::AsRawFd;
 
 // The n cases. Each verdict is counted in met: at its number if it is a refusal, at 0 if not.
 fn section(fd: i32, n: usize, met: &mut [usize; 9]) {
-    let mut i: usize = 0;
     let mut differ: usize = 0;
-    while i < n {
+    for i in 0..n {
         let c = case::next(fd);
         told::one_more(met, c.number);
         if !c.agrees {
             told::differs(b"check", i, differ);
             differ += 1;
         }
-        i += 1;
     }
-    told::total(b"checks", i - differ, differ);
+    told::total(b"checks", n - differ, differ);
 }
 
 // How often each verdict was met.
