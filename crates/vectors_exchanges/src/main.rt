@@ -10,18 +10,16 @@ use std::os::fd::AsRawFd;
 
 // The n cases. Each wanted number is counted in met, 0 for exchanged.
 fn section(fd: i32, n: usize, met: &mut [usize; 15]) {
-    let mut i: usize = 0;
     let mut differ: usize = 0;
-    while i < n {
+    for i in 0..n {
         let c = case::next(fd);
         told::one_more(met, c.number);
         if !c.agrees {
             told::differs(b"exchange", i, differ);
             differ += 1;
         }
-        i += 1;
     }
-    told::total(b"exchanges", i - differ, differ);
+    told::total(b"exchanges", n - differ, differ);
 }
 
 // How often each answer was wanted.
