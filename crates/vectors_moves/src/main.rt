@@ -10,10 +10,9 @@ use std::os::fd::AsRawFd;
 
 // The n cases. The file is that of the case before, where a case says so. Each wanted number is counted in met, 0 for moved.
 fn section(fd: i32, n: usize, file: &mut [u8; 65536], met: &mut [usize; 15]) {
-    let mut i: usize = 0;
     let mut differ: usize = 0;
     let mut size: usize = 0;
-    while i < n {
+    for i in 0..n {
         size = reading::file_field(fd, file, size);
         let c = case::next(fd, file, size);
         told::one_more(met, c.number);
@@ -21,9 +20,8 @@ fn section(fd: i32, n: usize, file: &mut [u8; 65536], met: &mut [usize; 15]) {
             told::differs(b"move", i, differ);
             differ += 1;
         }
-        i += 1;
     }
-    told::total(b"moves", i - differ, differ);
+    told::total(b"moves", n - differ, differ);
 }
 
 // How often each answer was wanted.
