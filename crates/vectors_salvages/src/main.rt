@@ -10,10 +10,9 @@ use std::os::fd::AsRawFd;
 
 // The n cases. The file is that of the case before, where a case says so. Each wanted answer is counted in met.
 fn section(fd: i32, n: usize, file: &mut [u8; 65536], met: &mut [usize; 18]) {
-    let mut i: usize = 0;
     let mut differ: usize = 0;
     let mut size: usize = 0;
-    while i < n {
+    for i in 0..n {
         size = reading::file_field(fd, file, size);
         let c = case::next(fd, file, size);
         told::one_more(met, c.answer);
@@ -21,9 +20,8 @@ fn section(fd: i32, n: usize, file: &mut [u8; 65536], met: &mut [usize; 18]) {
             told::differs(b"salvage", i, differ);
             differ += 1;
         }
-        i += 1;
     }
-    told::total(b"salvages", i - differ, differ);
+    told::total(b"salvages", n - differ, differ);
 }
 
 // How often each answer was wanted.
