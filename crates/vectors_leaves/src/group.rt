@@ -3,17 +3,6 @@ use crate::leaf::Case;
 use crate::number;
 use records::{u16_at, u32_at};
 
-fn same_tables(a: &[u8; 20], b: &[u8; 20]) -> bool {
-    let mut i: usize = 0;
-    while i < 20 {
-        if a[i] != b[i] {
-            return false;
-        }
-        i += 1;
-    }
-    true
-}
-
 // What is read is the first of the numbers. The second is stored.
 fn bit_agrees(first: usize, table: &mut [u8; 20], numbers: &[u8; 8]) -> bool {
     let read = bits::bit_at(table, first);
@@ -53,7 +42,7 @@ pub fn run(fd: i32) -> Case {
         return Case::Cut;
     }
     let same = agrees(&head, &mut table, &numbers);
-    if same & same_tables(&table, &after) {
+    if same & (table == after) {
         Case::Agrees
     } else {
         Case::Differs

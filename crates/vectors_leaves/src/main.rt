@@ -13,34 +13,24 @@ use leaf::Case;
 use std::fs;
 use std::os::fd::AsRawFd;
 
-// How many cases the file says that there are.
-#[derive(Clone, Copy)]
-enum Count {
-    Of(usize),
-    Wrong,
-}
-
-fn leaves(fd: i32) -> Count {
+// How many leaves the file says that there are; nothing where it has another head.
+fn leaves(fd: i32) -> Option<usize> {
     let mut h = [0u8; 12];
     let got = io::read_full(fd, &mut h);
-    if got < 12 {
-        return Count::Wrong;
+    let named = h.starts_with(b"NHV1");
+    if named & (got == 12) & (records::u32_at(&h, 4) == 1) {
+        return Some(records::u32_at(&h, 8));
     }
-    let named = (h[0] == b'N') & (h[1] == b'H') & (h[2] == b'V') & (h[3] == b'1');
-    if named & (records::u32_at(&h, 4) == 1) {
-        return Count::Of(records::u32_at(&h, 8));
-    }
-    Count::Wrong
+    None
 }
 
-// The number of groups, which stands between the two sections.
-fn groups(fd: i32) -> Count {
+// The number of groups, which stands between the two sections; nothing where the file ends before.
+fn groups(fd: i32) -> Option<usize> {
     let mut h = [0u8; 4];
-    let got = io::read_full(fd, &mut h);
-    if got < 4 {
-        return Count::Wrong;
+    if io::read_full(fd, &mut h) < 4 {
+        return None;
     }
-    Count::Of(records::u32_at(&h, 0))
+    Some(records::u32_at(&h, 0))
 }
 
 // The next case: of the leaves, or else of the groups.
@@ -85,9 +75,8 @@ fn cut(leaves: bool, i: usize) {
 
 // The n cases of a section. The answer is false where the file ends before the last.
 fn section(fd: i32, leaves: bool, n: usize) -> bool {
-    let mut i: usize = 0;
     let mut differ: usize = 0;
-    while i < n {
+    for i in 0..n {
         match next(fd, leaves) {
             Case::Agrees => {}
             Case::Differs => {
@@ -99,31 +88,30 @@ fn section(fd: i32, leaves: bool, n: usize) -> bool {
                 return false;
             }
         }
-        i += 1;
     }
-    total(leaves, i - differ, differ);
+    total(leaves, n - differ, differ);
     true
 }
 
 fn second_section(fd: i32) {
     match groups(fd) {
-        Count::Of(n) => {
+        Some(n) => {
             if section(fd, false, n) {
                 told::ended(reading::at_end(fd));
             }
         }
-        Count::Wrong => cut(false, 0),
+        None => cut(false, 0),
     }
 }
 
 fn run(fd: i32) {
     match leaves(fd) {
-        Count::Of(n) => {
+        Some(n) => {
             if section(fd, true, n) {
                 second_section(fd);
             }
         }
-        Count::Wrong => say(b"the file has another head\n"),
+        None => say(b"the file has another head\n"),
     }
 }
 

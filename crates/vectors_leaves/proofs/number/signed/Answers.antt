@@ -4,7 +4,6 @@ use native.Mathlib.Omega.{arith}
 use native.Mathlib.Nat.{mod-lt}
 use mathlib.Core.Path.{ap₂, ◌∙◌}
 use mir.Syntax.{w64}
-use borrow.Author.Rules.{rules}
 use Rattle.ec20.specs.Numbers.{signed}
 use Rattle.ints.proofs.Parts.{said}
 use Rattle.ints.proofs.TwosLaws.{signed_range}
@@ -12,10 +11,6 @@ use Rattle.vectors_leaves.proofs.number.signed.Goals as goal
 
 below : (u h : ℕ) → 0 < h → u % (h + h) < h + h
 below u h l = mod-lt u {m = h + h} (omega arith)
-
-pub of_bits-requires : goal.of_bits-requires
-of_bits-requires c =
-    (below c.u32_at-u.result c.half_of-h.result c.half_of-h.ensures.1, search rules)
 
 pub returns : goal.returns
 returns c =
