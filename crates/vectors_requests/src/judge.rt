@@ -48,17 +48,7 @@ pub fn changes(fd: i32, e: &mut [i16]) {
 pub fn same_words(d: &[i16], e: &[i16]) -> bool
     ensures { (result ≡ true → d.now ≡ e.now) × (d.now ≡ e.now → result ≡ true) }
 {
-    if d.len() != e.len() {
-        return false;
-    }
-    let mut i = 0;
-    while i < d.len() {
-        if d[i] != e[i] {
-            return false;
-        }
-        i += 1;
-    }
-    true
+    d == e
 }
 
 // The record told is always 0.

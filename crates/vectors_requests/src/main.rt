@@ -14,18 +14,16 @@ use std::os::fd::AsRawFd;
 
 // The n cases. The tables m and d are those of the case before, where a case says so; e is what d is wanted to be. Each answer is counted in met.
 fn section(fd: i32, n: usize, m: &mut [u8], d: &mut [i16], e: &mut [i16], met: &mut [usize; 30]) {
-    let mut i: usize = 0;
     let mut differ: usize = 0;
-    while i < n {
+    for i in 0..n {
         let c = case::next(fd, m, d, e);
         told::one_more(met, c.sort);
         if !c.agrees {
             told::differs(b"request", i, differ);
             differ += 1;
         }
-        i += 1;
     }
-    told::total(b"requests", i - differ, differ);
+    told::total(b"requests", n - differ, differ);
 }
 
 fn run(fd: i32, n: usize) {
