@@ -3,7 +3,7 @@ use Rattle.std.specs.Prelude.{ℕ, ◌+◌, ◌-◌, min, Bool, not, ◌&&◌, �
 use Rattle.ec20.specs.Basics.{pick}
 use Rattle.ec20.specs.declared.Report.{Report}
 use Rattle.ec20.specs.Scanned.{Scanned}
-use Rattle.ec20.specs.Scanned.{Ended, Watchdog, Refused}
+use Rattle.ec20.specs.Scanned.{Ended, Watchdog}
 use Rattle.vectors_scans.specs.declared.judge.Answer.{Answer}
 
 -- "0 one entry short .., 1 empty, 2 one entry more": of a table that has so many

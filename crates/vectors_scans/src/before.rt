@@ -3,12 +3,9 @@ use cases::{drawing, octets, reading};
 
 // As many bytes as the file says next are written over the image, each at its offset.
 pub fn patch(fd: i32, b: &mut [u8]) {
-    let n = reading::u16_from(fd);
-    let mut i: usize = 0;
-    while i < n {
+    for _patch in 0..reading::u16_from(fd) {
         let at = reading::u16_from(fd);
         octets::put(b, at, reading::u8_from(fd));
-        i += 1;
     }
 }
 

@@ -135,9 +135,7 @@ fn agrees(f: &[u8], a: Asked, image: &[u8; 16892], want: Answer, after: &[u8; 16
     );
     let mut left = tables::image();
     image::join(&x, &y, &m, &sm, &t, &d, &tv, &rest, &mut left);
-    judge::agrees(s, want)
-        & check::same(&left, after)
-        & past_is_zero(&y, &m, &sm, &t, &d, &tv, &rest)
+    judge::agrees(s, want) & (left == *after) & past_is_zero(&y, &m, &sm, &t, &d, &tv, &rest)
 }
 
 // The scan with its budget and, where the entry that takes none answers the same, that one too.

@@ -6,7 +6,7 @@ use ec20::{Refusal, Report, Stop};
 
 // The numbers of an answer: refusal (0: none) and its record; 0 refused, 1 ended, 2 watchdog; the steps, the record stopped at, the first
 // error and its record.
-#[derive(Clone, Copy)]
+#[derive(Clone, Copy, PartialEq, Eq)]
 pub struct Answer {
     pub number: usize,
     pub told: usize,
@@ -57,22 +57,10 @@ fn told(s: Result<Stop, Refusal>) -> Answer
     }
 }
 
-fn same_answer(a: Answer, b: Answer) -> bool
-    ensures { (result ≡ true → a ≡ b) × (a ≡ b → result ≡ true) }
-{
-    (a.number == b.number)
-        & (a.told == b.told)
-        & (a.kind == b.kind)
-        & (a.steps == b.steps)
-        & (a.stop == b.stop)
-        & (a.error == b.error)
-        & (a.at == b.at)
-}
-
 pub fn agrees(s: Result<Stop, Refusal>, want: Answer) -> bool
     ensures { (result ≡ true → told_by s ≡ want) × (told_by s ≡ want → result ≡ true) }
 {
-    same_answer(told(s), want)
+    told(s) == want
 }
 
 // Whether a scan without a budget answers the same.

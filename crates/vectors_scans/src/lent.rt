@@ -20,12 +20,7 @@ fn wrong(way: u8, full: u16) -> usize
     ensures { result ≡ wrong_size way full }
 {
     match way {
-        0 => {
-            if full > 0 {
-                return full as usize - 1;
-            }
-            0
-        }
+        0 => (full as usize).saturating_sub(1),
         1 => 0,
         _ => full as usize + 1,
     }

@@ -22,10 +22,9 @@ fn section(
     image: &mut [u8; 16892],
     met: &mut [usize; 18],
 ) {
-    let mut i: usize = 0;
     let mut differ: usize = 0;
     let mut size: usize = 0;
-    while i < n {
+    for i in 0..n {
         size = reading::file_field(fd, file, size);
         let c = case::next(fd, file, size, image);
         counts::add(met, c.want, c.budget);
@@ -33,9 +32,8 @@ fn section(
             cases::told::differs(b"scan", i, differ);
             differ += 1;
         }
-        i += 1;
     }
-    cases::told::total(b"scans", i - differ, differ);
+    cases::told::total(b"scans", n - differ, differ);
 }
 
 fn run(fd: i32, n: usize) {

@@ -1,2 +1,0 @@
--- Answers that are the same.
-pub mod Alike

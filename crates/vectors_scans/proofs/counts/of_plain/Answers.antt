@@ -1,9 +1,0 @@
--- By the test. Assumes nothing.
-use mathlib.Core.Path.{sym, ◌∙◌}
-use Rattle.vectors_scans.proofs.counts.of_plain.Goals as goal
-
-pub returns-then-is_plain : goal.returns-then-is_plain
-returns-then-is_plain c = rw (sym c.is_plain.ensures ∙ c.if-is_plain.true)
-
-pub returns : goal.returns
-returns c = rw (sym c.is_plain.ensures ∙ c.if-is_plain.false)
