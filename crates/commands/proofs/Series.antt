@@ -15,7 +15,7 @@ use Rattle.ec20.proofs.Tests.{differ}
 use Rattle.ec20.specs.Exchanged.{Exchanged}
 use Rattle.ec20.specs.Exchanged.{Done, Refused as NotExchanged}
 use Rattle.ec20.specs.Judged.{Judged}
-use Rattle.ec20.specs.Judged.{Fine, Fault}
+use Rattle.ec20.specs.Judged.{Fine}
 use Rattle.ec20.specs.Devices.{ec20}
 use Rattle.ec20.specs.Exchange.{Exchange, exchanged, judge_exchange, exchange_if, exchange_for, exchange_of}
 use Rattle.ec20.specs.Memory.{with_d}

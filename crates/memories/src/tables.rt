@@ -24,32 +24,32 @@ pub fn image() -> [u8; 16892]
 }
 
 // X, Y, SM and T contacts.
-pub fn bits() -> [u8; 32]
+fn bits() -> [u8; 32]
     ensures { 32 ≡ length result }
 {
     [0; 32]
 }
 
-pub fn m_bits() -> [u8; 250]
+fn m_bits() -> [u8; 250]
     ensures { 250 ≡ length result }
 {
     [0; 250]
 }
 
-pub fn d_words() -> [i16; 8000]
+fn d_words() -> [i16; 8000]
     ensures { 8000 ≡ length result }
 {
     [0; 8000]
 }
 
-pub fn t_values() -> [i16; 256]
+fn t_values() -> [i16; 256]
     ensures { 256 ≡ length result }
 {
     [0; 256]
 }
 
 // The leftovers.
-pub fn rest() -> [u8; 2]
+fn rest() -> [u8; 2]
     ensures { 2 ≡ length result }
 {
     [0; 2]

@@ -1,6 +1,6 @@
 -- A number, or 0 where there is none. Assumes nothing.
 use Rattle.std.proofs.Common.{◌≡◌, ℕ, Bool, true, false, cond, List, refl}
-use Rattle.std.specs.Prelude.{Option, Some, None}
+use Rattle.std.specs.Prelude.{Some, None}
 use Rattle.std.specs.Option.{unwrap_or}
 use Rattle.calls.specs.Numbers.{value_of, is_number, number_of, number_in}
 

@@ -3,7 +3,7 @@ use Rattle.std.specs.Prelude.{ℕ, ◌+◌, Bool, ◌&&◌, ◌||◌, List, ltb,
 use Rattle.ec20.specs.Basics.{pick}
 use Rattle.ec20.specs.File.{byte_at}
 use Rattle.modbus.specs.Answered.{Answered}
-use Rattle.modbus.specs.Answered.{Refused, Silent, Reply}
+use Rattle.modbus.specs.Answered.{Silent, Reply}
 use Rattle.vectors_requests.specs.declared.judge.Wanted.{Wanted}
 
 -- the kind is 0 for refused, 1 for silent, 2 for a reply; the number is that of the refusal, or 0. The record told is always 0.

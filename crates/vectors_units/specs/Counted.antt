@@ -2,7 +2,7 @@
 use Rattle.std.specs.Prelude.{ℕ, ◌==◌, nat_lt, Err}
 use Rattle.ec20.specs.Basics.{pick}
 use Rattle.units.specs.Clashed.{Clashed}
-use Rattle.units.specs.Clashed.{Refused, Clashes}
+use Rattle.units.specs.Clashed.{Clashes}
 
 -- 18 a list of at most 64, 19 a longer one
 abbrev pub list_count : ℕ → ℕ

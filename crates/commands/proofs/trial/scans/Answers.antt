@@ -1,6 +1,4 @@
 use mathlib.Core.Path.{◌∙◌}
-use native.Mathlib.Omega.{arith}
-use borrow.Author.Rules.{rules}
 use Rattle.commands.proofs.Series.{drawn-alike}
 use Rattle.commands.proofs.trial.scans.Goals as goal
 
