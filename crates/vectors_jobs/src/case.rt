@@ -167,15 +167,12 @@ pub fn next(fd: i32, file: &[u8; 65536], n: usize) -> Judged {
     let mut lines = most_lines();
     read_lines(fd, &mut lines, a.lines);
     let want = read_wanted(fd);
-    let mut left = io::large_buffer();
-    octets::copy(file, &mut left);
-    let mut after = io::large_buffer();
-    octets::copy(file, &mut after);
+    let mut left = *file;
+    let mut after = *file;
     change(fd, &mut after);
     let answered = part_agrees(a, want, &mut left, n, &lines);
-    let kept = check::same(&left, &after);
     Judged {
-        agrees: answered & kept,
+        agrees: answered & (left == after),
         number: want.number,
         meeting: meeting(want.line, want.other),
     }

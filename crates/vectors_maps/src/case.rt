@@ -46,18 +46,10 @@ fn agrees(
     written: &[u8; 1000],
 ) -> bool {
     match usemap::use_map(file) {
-        Ok(m) => {
-            (number == 0)
-                & (record == 0)
-                & check::same(&m.read, read)
-                & check::same(&m.written, written)
-        }
+        Ok(m) => { (number == 0) & (record == 0) & (m.read == *read) & (m.written == *written) }
         Err(r) => {
             let none = unmarked();
-            (r.number == number)
-                & (r.at == record)
-                & check::same(&none, read)
-                & check::same(&none, written)
+            (r.number == number) & (r.at == record) & (*read == none) & (*written == none)
         }
     }
 }

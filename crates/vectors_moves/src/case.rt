@@ -78,15 +78,12 @@ fn answer_agrees(file: &mut [u8], n: usize, a: Asked, want: Answer) -> bool {
 pub fn next(fd: i32, file: &[u8; 65536], n: usize) -> Judged {
     let a = read_asked(fd);
     let want = read_wanted(fd);
-    let mut left = io::large_buffer();
-    octets::copy(file, &mut left);
-    let mut after = io::large_buffer();
-    octets::copy(file, &mut after);
+    let mut left = *file;
+    let mut after = *file;
     change(fd, &mut after);
     let answered = answer_agrees(&mut left, n, a, want);
-    let kept = check::same(&left, &after);
     Judged {
-        agrees: answered & kept,
+        agrees: answered & (left == after),
         number: want.number,
     }
 }
