@@ -173,13 +173,12 @@ pub fn next(fd: i32, file: &[u8; 65536], n: usize, image: &mut [u8; 16892]) -> J
     before::image(fd, image, rule);
     let a = read_asked(fd, table, way);
     let want = wanted(fd);
-    let mut after = tables::image();
-    octets::copy(image, &mut after);
+    let mut after = *image;
     before::patch(fd, &mut after);
     let told = reading::u32_from(fd) as u64;
     let same = part_agrees(file, n, a, image, want, &after);
     let summed = octets::checksum(&after) == told;
-    octets::copy(&after, image);
+    *image = after;
     Judged {
         agrees: same & summed,
         want,
