@@ -27,11 +27,9 @@ pub fn of_clashes(a: Result<usize, Refusal>) -> usize
 {
     match a {
         Err(r) => r.number,
-        Ok(count) => match count {
-            0 => 0,
-            2016 => 2,
-            _ => 1,
-        },
+        Ok(0) => 0,
+        Ok(2016) => 2,
+        Ok(_) => 1,
     }
 }
 

@@ -26,23 +26,14 @@ fn empty() -> Table {
     Table { at: [d; 64] }
 }
 
-// A declaration is put at a place of the table, and left out past its 64 places.
-fn put(t: Table, i: usize, d: Declaration) -> Table {
-    if i < 64 {
-        let mut e = t;
-        e.at[i] = d;
-        return e;
-    }
-    t
-}
-
 // The next n declarations of the file, of which the table has the first 64.
 pub fn table(fd: i32, n: usize) -> Table {
     let mut t = empty();
-    let mut i: usize = 0;
-    while i < n {
-        t = put(t, i, read(fd));
-        i += 1;
+    for i in 0..n {
+        let d = read(fd);
+        if i < 64 {
+            t.at[i] = d;
+        }
     }
     t
 }

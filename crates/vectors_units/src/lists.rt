@@ -32,23 +32,6 @@ fn same_answer(a: Result<usize, Refusal>, w: Wanted) -> bool {
     }
 }
 
-// Whether two reports have the same pairs.
-fn same(a: &[[u32; 2]], b: &[[u32; 2]]) -> bool {
-    if a.len() != b.len() {
-        return false;
-    }
-    let mut i = 0;
-    while i < a.len() {
-        let x = a[i];
-        let y = b[i];
-        if (x[0] != y[0]) | (x[1] != y[1]) {
-            return false;
-        }
-        i += 1;
-    }
-    true
-}
-
 // The call over as much of the report as is lent. No case lends more than there is.
 fn called(t: Table, n: usize, room: usize, report: &mut [[u32; 2]]) -> Result<usize, Refusal> {
     let size = least(room, report.len());
@@ -65,7 +48,7 @@ fn judged(fd: i32, t: Table, n: usize, report: &mut [[u32; 2]], wanted: &mut [[u
     reports::pairs(fd, wanted, w.count);
     let a = called(t, n, room, report);
     Judged {
-        agrees: same_answer(a, w) & same(report, wanted),
+        agrees: same_answer(a, w) & (*report == *wanted),
         answer: counts::of_clashes(a),
         list: counts::of_list(n),
     }

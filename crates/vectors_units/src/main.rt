@@ -28,9 +28,8 @@ fn next(fd: i32, kind: usize) -> Judged {
 
 // The n cases of a kind, which are called so. Each is counted in met.
 fn section(fd: i32, kind: usize, n: usize, kinds: &[u8], met: &mut [usize; 20]) {
-    let mut i: usize = 0;
     let mut differ: usize = 0;
-    while i < n {
+    for i in 0..n {
         let c = next(fd, kind);
         told::one_more(met, c.answer);
         told::one_more(met, c.list);
@@ -38,9 +37,8 @@ fn section(fd: i32, kind: usize, n: usize, kinds: &[u8], met: &mut [usize; 20]) 
             told::differs(kinds, i, differ);
             differ += 1;
         }
-        i += 1;
     }
-    told::total(kinds, i - differ, differ);
+    told::total(kinds, n - differ, differ);
 }
 
 // A case file.

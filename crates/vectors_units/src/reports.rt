@@ -15,20 +15,16 @@ pub fn fill(r: &mut [[u32; 2]], seed: u32)
     ensures { r.new ≡ seeded seed (length r.old) }
 {
     let mut v = seed;
-    let mut i = 0;
-    while i < r.len() {
-        r[i] = [v, std::num::wrapping_add_u32(v, 1)];
-        v = std::num::wrapping_add_u32(v, 2);
-        i += 1;
+    for i in 0..r.len() {
+        r[i] = [v, v.wrapping_add(1)];
+        v = v.wrapping_add(2);
     }
 }
 
 // The next n pairs of the file are the first that the report is wanted to have. The lower place is the low half of a number there.
 pub fn pairs(fd: i32, r: &mut [[u32; 2]], n: usize) {
-    let mut i: usize = 0;
-    while i < n {
+    for i in 0..n {
         let both = reading::u32_from(fd);
         put(r, i, (both % 65536) as u32, (both / 65536) as u32);
-        i += 1;
     }
 }

@@ -9,12 +9,8 @@ use units::Table;
 
 // Whether the first n declarations are the same, or all 64 where n is more.
 fn same(t: Table, u: Table, n: usize) -> bool {
-    for i in 0..least(n, 64) {
-        if t.at[i] != u.at[i] {
-            return false;
-        }
-    }
-    true
+    let first = least(n, 64);
+    t.at[..first] == u.at[..first]
 }
 
 // The refusal of what was read: 15 and its line; where there is none, 0 and 0.

@@ -3,28 +3,13 @@ use crate::counts::Judged;
 use crate::tables;
 use cases::reading;
 
-// Whether a text begins with this part.
-fn begins(text: &[u8], part: &[u8]) -> bool {
-    if text.len() < part.len() {
-        return false;
-    }
-    let mut i = 0;
-    while i < part.len() {
-        if text[i] != part[i] {
-            return false;
-        }
-        i += 1;
-    }
-    true
-}
-
 // Which text the part is of: 0 it is empty, 1 the first, 2 the second, 17 neither. Where both begin with it, it is of the one that is wanted.
 fn text_of(part: &[u8], a: &[u8], b: &[u8], wanted: usize) -> usize {
-    if part.len() == 0 {
+    if part.is_empty() {
         return 0;
     }
-    let first = begins(a, part);
-    let second = begins(b, part);
+    let first = a.starts_with(part);
+    let second = b.starts_with(part);
     if second & ((wanted == 2) | !first) {
         return 2;
     }

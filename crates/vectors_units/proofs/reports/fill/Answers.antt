@@ -14,9 +14,9 @@ loop-i-preserved c =
     let seed = c.args.seed in
     let l = c.loop-i in
     let s = l.invariant.0 in
-    let next = c.wrapping_add_u32.ensures.value ∙ ap (λ (x : ℕ). (x + 1) % 2 ^ 32) l.invariant.1 ∙ mod-add-mod (seed + 2 * l.i) (2 ^ 32) 1 in (
+    let next = ap (λ (x : ℕ). (x + 1) % 2 ^ 32) l.invariant.1 ∙ mod-add-mod (seed + 2 * l.i) (2 ^ 32) 1 in (
       filling-more _ (omega (arith, s.size)) s (ap₂ pair l.invariant.1 next),
-      c.wrapping_add_u32-v.ensures.value ∙ ap (λ (x : ℕ). (x + 2) % 2 ^ 32) l.invariant.1 ∙ step-more (2 ^ 32) seed 2 l.i,
+      ap (λ (x : ℕ). (x + 2) % 2 ^ 32) l.invariant.1 ∙ step-more (2 ^ 32) seed 2 l.i,
     )
 
 pub returns : goal.returns
