@@ -29,7 +29,7 @@ pub fn head(fd: i32, kind: usize) -> usize
 {
     let mut h = [0u8; 12];
     let got = io::read_full(fd, &mut h);
-    let named = (h[0] == b'N') & (h[1] == b'H') & (h[2] == b'V') & (h[3] == b'1');
+    let named = h.starts_with(b"NHV1");
     if named & (got == 12) & (records::u32_at(&h, 4) == kind) {
         return records::u32_at(&h, 8);
     }
