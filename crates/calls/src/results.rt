@@ -17,7 +17,7 @@ pub enum Status {
 
 impl Status {
     // As the system's programs tell it.
-    pub fn number(self) -> u8 {
+    fn number(self) -> u8 {
         match self {
             Status::Answered => 0,
             Status::Refused => 1,

@@ -24,7 +24,7 @@ pub fn same_name(a: [u8; 8], b: [u8; 8]) -> bool
 }
 
 // Whether two declarations clash.
-pub fn clash(a: Declaration, b: Declaration) -> bool
+fn clash(a: Declaration, b: Declaration) -> bool
     ensures { result ≡ clash_of a b }
 {
     if same_name(a.name, b.name) {
@@ -46,14 +46,14 @@ fn right_block(a: Declaration) -> bool
 }
 
 // A row with one place more ahead of it.
-pub fn grown(r: u64, c: bool) -> u64
+fn grown(r: u64, c: bool) -> u64
     requires { r < 2 ^ 63 }
     ensures { result ≡ grown_by r c }
 {
     if c { 1 + 2 * r } else { 2 * r }
 }
 
-pub fn no_rows() -> Rows
+fn no_rows() -> Rows
     ensures { result ≡ no_rows }
 {
     Rows {
@@ -63,7 +63,7 @@ pub fn no_rows() -> Rows
 }
 
 // The row of place i put to the others.
-pub fn with_row(r: Rows, i: usize, a: Declaration, row: u64) -> Rows
+fn with_row(r: Rows, i: usize, a: Declaration, row: u64) -> Rows
     requires { i < 64 }
     ensures { result ≡ with_row r i a row }
 {
@@ -141,7 +141,7 @@ fn tell_rows(report: &mut [[u32; 2]], of: [u64; 64], n: usize) -> usize
 }
 
 // The report of a list of n declarations, the first 64 of which have these rows.
-pub fn told(r: Rows, n: usize, report: &mut [[u32; 2]]) -> Result<usize, Refusal>
+fn told(r: Rows, n: usize, report: &mut [[u32; 2]]) -> Result<usize, Refusal>
     ensures { reported result report.new ≡ told_of r n report.old }
 {
     if !((n <= 64) & r.right) {

@@ -10,7 +10,7 @@ ghost use Rattle.units.specs.Text.{named, line_at};
 use units::{Digits, Line};
 
 // Byte i of a text, and 0 past its end.
-pub fn byte_in(s: &[u8], i: usize) -> u8
+fn byte_in(s: &[u8], i: usize) -> u8
     ensures { result ≡ byte_in s.now i }
 {
     s.get(i).copied().unwrap_or(0)
