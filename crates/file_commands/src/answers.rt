@@ -34,7 +34,8 @@ fn run_over(
             if replaced {
                 files::replace(rt, path, image, to.err)?;
             }
-            Ok(report::answered(&reply, length, replaced, to))
+            let bytes = length.map(|n| &reply[..n.min(reply.len())]);
+            Ok(report::answered(bytes, replaced, to))
         }
     }
 }

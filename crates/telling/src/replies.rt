@@ -28,21 +28,21 @@ fn put_byte(text: &mut [u8; 768], i: usize, b: u8)
     text[3 * i + 2] = digit(b % 16);
 }
 
-// The first n bytes of the reply.
-fn fill(reply: &[u8], n: usize, text: &mut [u8; 768])
-    requires { (n ≤ 256) × (n ≤ length reply.now) × (768 ≡ length text.old) }
-    ensures { Spelt reply.now n text.old text.new }
+// The bytes of the reply.
+fn fill(reply: &[u8], text: &mut [u8; 768])
+    requires { (length reply.now ≤ 256) × (768 ≡ length text.old) }
+    ensures { Spelt reply.now (length reply.now) text.old text.new }
 {
-    for i in 0..n {
+    for i in 0..reply.len() {
         put_byte(text, i, reply[i]);
     }
 }
 
-// A line for the first n bytes of the reply, as many as it has and of 256 at most.
-pub fn show(mut out: Descriptor, reply: &[u8], n: usize) -> fmt::Result {
-    let n = n.min(256).min(reply.len());
+// A line for the bytes of the reply, for the first 256 at most.
+pub fn show(mut out: Descriptor, reply: &[u8]) -> fmt::Result {
+    let n = reply.len().min(256);
     let mut text = blanks();
-    fill(reply, n, &mut text);
+    fill(&reply[..n], &mut text);
     write!(out, "reply")?;
     out.put(&text[..3 * n])?;
     writeln!(out)

@@ -58,12 +58,12 @@ pub fn kept(count: usize, added: bool, rest: usize, mut to: Outputs) -> Outcome
     results::answered(Status::Answered, true, written, to.err)
 }
 
-// A request was answered by so many bytes of the reply, or by none. replaced: whether it changed the memory, which was written.
-pub fn answered(reply: &[u8], length: Option<usize>, replaced: bool, mut to: Outputs) -> Outcome
+// A request was answered by this reply, or by none. replaced: whether it changed the memory, which was written.
+pub fn answered(reply: Option<&[u8]>, replaced: bool, mut to: Outputs) -> Outcome
     ensures { Answers Answered replaced result }
 {
-    let written = match length {
-        Some(n) => replies::show(to.out, reply, n),
+    let written = match reply {
+        Some(bytes) => replies::show(to.out, bytes),
         None => writeln!(to.out, "silent"),
     };
     results::answered(Status::Answered, replaced, written, to.err)
