@@ -69,14 +69,10 @@ fn read<'a>(rt: &impl Clock, held: &mut [u8], mut s: State<'a>) -> State<'a> {
     s
 }
 
-// The frame that the bytes held begin with, or 0. now: a moment before the line was read, so that nothing came until then.
+// How long the frame is that the bytes held begin with, or 0. now: a moment before the line was read, so that nothing came until then.
 fn frame(held: &[u8], w: Wanted, s: State<'_>, now: u64) -> usize {
-    let n = s.held;
-    if n > held.len() {
-        return 0;
-    }
     let silence = (s.came == 0) & (times::between(s.heard, now) > u64::from(w.silence));
-    held::frame(w.station as usize, &held[..n], silence)
+    held::frame(w.station as usize, held, silence)
 }
 
 fn silent(mut s: State<'_>) -> State<'_> {
@@ -84,14 +80,11 @@ fn silent(mut s: State<'_>) -> State<'_> {
     s
 }
 
-// The first n bytes of a reply. A line that does not take them is hung up.
-fn sent<'a>(reply: &[u8], n: usize, mut s: State<'a>) -> State<'a> {
-    if n > reply.len() {
-        return s;
-    }
+// A reply. A line that does not take it is hung up.
+fn sent<'a>(reply: &[u8], mut s: State<'a>) -> State<'a> {
     s.counts.replies = s.counts.replies.wrapping_add(1);
     let mut device = s.device;
-    if device.write_all(&reply[..n]).is_err() {
+    if device.write_all(reply).is_err() {
         s.over = true;
     }
     s
@@ -102,7 +95,7 @@ fn answered<'a>(image: &mut [u8; 16892], frame: &[u8], w: Wanted, mut s: State<'
     s.counts.requests = s.counts.requests.wrapping_add(1);
     let mut reply = state::reply();
     match answers::in_image(image, 16892, w.station, frame, &mut reply) {
-        Ok(Some(length)) => sent(&reply, length, s),
+        Ok(Some(n)) => sent(&reply[..n.min(reply.len())], s),
         _ => silent(s),
     }
 }
@@ -155,7 +148,8 @@ fn served<'a>(
     s: State<'a>,
     now: u64,
 ) -> State<'a> {
-    let k = frame(held, w, s, now);
+    let n = s.held.min(held.len());
+    let k = frame(&held[..n], w, s, now);
     if k > 0 {
         return taken(image, held, k, w, s);
     }
