@@ -20,7 +20,7 @@ fn room() -> [[u32; 2]; 2016]
 
 fn show_lines(u: Units, pairs: &[[u32; 2]], file: &[u8], out: Descriptor) -> fmt::Result {
     shown::clash_lines(out, u.table, pairs)?;
-    shown::split_lines(out, u.table, u.count, file)
+    shown::split_lines(out, &u.table.at[..u.count.min(64)], file)
 }
 
 // The clashes of a list that is spelt well, and the splits by a program, if the list is not refused: whether they were written. What is no program has no

@@ -52,9 +52,8 @@ pub fn clash_lines(mut out: Descriptor, t: Table, report: &[[u32; 2]]) -> fmt::R
     writeln!(out, "clashes {}", report.len())
 }
 
-// The split of place i, where the program has one.
-fn split(mut to: Descriptor, t: Table, i: usize, file: &[u8]) -> fmt::Result {
-    let a = at(t, i);
+// The split of the declaration at place i, where the program has one.
+fn split(mut to: Descriptor, i: usize, a: Declaration, file: &[u8]) -> fmt::Result {
     let Err(refusal) = unit_splits::split(file, a) else {
         return Ok(());
     };
@@ -65,10 +64,10 @@ fn split(mut to: Descriptor, t: Table, i: usize, file: &[u8]) -> fmt::Result {
     writeln!(to)
 }
 
-// A line for each of the first n declarations in whose block an operand of the program lies partly.
-pub fn split_lines(out: Descriptor, t: Table, n: usize, file: &[u8]) -> fmt::Result {
-    for i in 0..n {
-        split(out, t, i, file)?;
+// A line for each declaration in whose block an operand of the program lies partly.
+pub fn split_lines(out: Descriptor, list: &[Declaration], file: &[u8]) -> fmt::Result {
+    for (i, a) in list.iter().enumerate() {
+        split(out, i, *a, file)?;
     }
     Ok(())
 }
