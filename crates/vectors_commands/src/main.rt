@@ -109,21 +109,16 @@ fn run<R: Files<File = File> + RandomSource + Clock>(rt: &R, line: &[u8]) {
     say(b"\n");
 }
 
-// The call is the first n bytes; a longer line than the buffer is none.
-fn run_part<R: Files<File = File> + RandomSource + Clock>(rt: &R, call: &[u8], n: usize) {
-    if n < call.len() {
-        run(rt, &call[0..n + 1]);
-    }
-}
-
-// A line: a remark, or a call, which is told first.
+// A line: a remark, or a call, which is told first. A longer line than the buffer is no call.
 fn turn<R: Files<File = File> + RandomSource + Clock>(rt: &R, text: &[u8]) {
     say(text);
     say(b"\n");
     if lines::is_call(text) {
         let mut call = io::buffer();
         lines::to_call(text, &mut call);
-        run_part(rt, &call, text.len());
+        if text.len() < call.len() {
+            run(rt, &call[..=text.len()]);
+        }
     }
 }
 
