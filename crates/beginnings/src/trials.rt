@@ -89,10 +89,11 @@ struct Unfit {
     size: usize,
 }
 
-// The memory file at the start of the buffer: it is to be of the right size, with both leftovers in their ranges.
-fn judged(memory: &[u8], size: usize) -> Result<(), Unfit> {
-    if (memory.len() >= 16892) & (size == 16892) {
-        if leftovers::fit(&memory[16890..16892]) {
+// The memory file is to be of the right size, with both leftovers in their ranges.
+fn judged(memory: &[u8]) -> Result<(), Unfit> {
+    let size = memory.len();
+    if size == 16892 {
+        if leftovers::fit(&memory[16890..]) {
             return Ok(());
         }
     }
@@ -246,7 +247,7 @@ pub fn begin(
 {
     match scans::load(rt, call, t.memory_word, to.err, old, memory) {
         Ok(sizes) => {
-            let fits = judged(memory, sizes.memory);
+            let fits = judged(&memory[..sizes.memory.min(65536)]);
             part(rt, call, old, sizes.program, new, fits, t, to)
         }
         Err(_) => Err(results::not_tried()),
