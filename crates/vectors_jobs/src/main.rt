@@ -7,7 +7,8 @@ mod case;
 use cases::program::{CaseFile, Cases};
 use cases::{program, reading, told};
 
-// The file, which is that of the case before where a case says so, and its size. How often each answer was wanted, by its number, 0 for done, and at 17 how often two lines meet.
+// The file, which is that of the case before where a case says so, and its size. How often each answer was wanted, by its number, 0 for done, and at
+// 17 how often two lines meet.
 #[derive(Drop)]
 struct Jobs {
     file: [u8; 65536],
