@@ -4,5 +4,6 @@
 
 pub mod drawing;
 pub mod octets;
+pub mod program;
 pub mod reading;
 pub mod told;

@@ -1,13 +1,7 @@
 // A case: five numbers of four bytes, then the bytes of a program file.
+use cases::program::Judged;
 use ec20::{Accepted, Refusal};
 use records::u32_at;
-
-// What came of a case: whether the verdict is the one wanted, and its number, 0 for accepted.
-#[derive(Clone, Copy)]
-pub struct Judged {
-    pub agrees: bool,
-    pub number: usize,
-}
 
 // The numbers after the length: refusal (0 for accepted), record told, records, steps.
 fn same(v: Result<Accepted, Refusal>, h: &[u8; 20]) -> bool {

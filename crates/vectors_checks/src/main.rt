@@ -4,45 +4,35 @@
 
 mod case;
 
-use cases::{reading, told};
-use std::fs;
-use std::os::fd::AsRawFd;
+use cases::program::{CaseFile, Cases};
+use cases::{program, told};
 
-// The n cases. Each verdict is counted in met: at its number if it is a refusal, at 0 if not.
-fn section(fd: i32, n: usize, met: &mut [usize; 9]) {
-    let mut differ: usize = 0;
-    for i in 0..n {
+// How often each verdict was met: at its number if it is a refusal, at 0 if not.
+#[derive(Drop)]
+struct Checks {
+    met: [usize; 9],
+}
+
+impl Cases for Checks {
+    fn next(&mut self, fd: i32) -> bool {
         let c = case::next(fd);
-        told::one_more(met, c.number);
-        if !c.agrees {
-            told::differs(b"check", i, differ);
-            differ += 1;
-        }
+        told::one_more(&mut self.met, c.number);
+        c.agrees
     }
-    told::total(b"checks", n - differ, differ);
-}
 
-// How often each verdict was met.
-fn counts(met: &[usize; 9]) {
-    told::line(b"accepted", met[0]);
-    told::refusals(met, 1, 8);
-}
-
-fn run(fd: i32, n: usize) {
-    let mut met = [0usize; 9];
-    section(fd, n, &mut met);
-    counts(&met);
-    told::ended(reading::at_end(fd));
+    fn tell(&self) {
+        told::line(b"accepted", self.met[0]);
+        told::refusals(&self.met, 1, 8);
+    }
 }
 
 fn main(rt: HostRuntime) -> std::io::Result<()> {
-    let name = "checks.bin";
-    match fs::open(&rt, name) {
-        Ok(file) => {
-            let fd = file.as_raw_fd();
-            run(fd, reading::head(fd, 2));
-            Ok(())
-        }
-        Err(e) => told::failed(&rt, name, &e),
-    }
+    let mut checks = Checks { met: [0; 9] };
+    let file = CaseFile {
+        name: "checks.bin",
+        kind: 2,
+        one: b"check",
+        all: b"checks",
+    };
+    program::run(&rt, file, &mut checks)
 }

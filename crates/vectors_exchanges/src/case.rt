@@ -1,15 +1,9 @@
 // A case: how the D table is made, block and place, what is wanted.
 ghost use Rattle.std.specs.Prelude.{length, ◌≡◌};
 
+use cases::program::Judged;
 use cases::{drawing, octets, reading};
 use ec20::Refusal;
-
-// What came of a case: whether the exchange gave what is wanted, and the number of that, 0 for exchanged.
-#[derive(Clone, Copy)]
-pub struct Judged {
-    pub agrees: bool,
-    pub number: usize,
-}
 
 #[derive(Clone, Copy)]
 struct Asked {

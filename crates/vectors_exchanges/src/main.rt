@@ -4,45 +4,35 @@
 
 mod case;
 
-use cases::{reading, told};
-use std::fs;
-use std::os::fd::AsRawFd;
+use cases::program::{CaseFile, Cases};
+use cases::{program, told};
 
-// The n cases. Each wanted number is counted in met, 0 for exchanged.
-fn section(fd: i32, n: usize, met: &mut [usize; 15]) {
-    let mut differ: usize = 0;
-    for i in 0..n {
+// How often each answer was wanted, by its number, 0 for exchanged.
+#[derive(Drop)]
+struct Exchanges {
+    met: [usize; 15],
+}
+
+impl Cases for Exchanges {
+    fn next(&mut self, fd: i32) -> bool {
         let c = case::next(fd);
-        told::one_more(met, c.number);
-        if !c.agrees {
-            told::differs(b"exchange", i, differ);
-            differ += 1;
-        }
+        told::one_more(&mut self.met, c.number);
+        c.agrees
     }
-    told::total(b"exchanges", n - differ, differ);
-}
 
-// How often each answer was wanted.
-fn counts(met: &[usize; 15]) {
-    told::line(b"exchanged", met[0]);
-    told::refusals(met, 9, 14);
-}
-
-fn run(fd: i32, n: usize) {
-    let mut met = [0usize; 15];
-    section(fd, n, &mut met);
-    counts(&met);
-    told::ended(reading::at_end(fd));
+    fn tell(&self) {
+        told::line(b"exchanged", self.met[0]);
+        told::refusals(&self.met, 9, 14);
+    }
 }
 
 fn main(rt: HostRuntime) -> std::io::Result<()> {
-    let name = "exchanges.bin";
-    match fs::open(&rt, name) {
-        Ok(file) => {
-            let fd = file.as_raw_fd();
-            run(fd, reading::head(fd, 5));
-            Ok(())
-        }
-        Err(e) => told::failed(&rt, name, &e),
-    }
+    let mut exchanges = Exchanges { met: [0; 15] };
+    let file = CaseFile {
+        name: "exchanges.bin",
+        kind: 5,
+        one: b"exchange",
+        all: b"exchanges",
+    };
+    program::run(&rt, file, &mut exchanges)
 }

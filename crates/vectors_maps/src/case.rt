@@ -1,14 +1,8 @@
 // A case: the file, what is wanted.
 ghost use Rattle.std.specs.Prelude.{length, ◌≡◌};
 
+use cases::program::Judged;
 use cases::reading;
-
-// What came of a case: whether the map is the one wanted, and the number of refusal that is wanted, 0 for accepted.
-#[derive(Clone, Copy)]
-pub struct Judged {
-    pub agrees: bool,
-    pub number: usize,
-}
 
 // No word is marked. It tells its length alone, so that no proof writes the zeros out.
 fn unmarked() -> [u8; 1000]

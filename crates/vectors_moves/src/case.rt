@@ -1,13 +1,7 @@
 // A case: the file, block and pool, what is wanted.
+use cases::program::Judged;
 use cases::{octets, reading};
 use ec20::Refusal;
-
-// What came of a case: whether the move gave what is wanted, and the number of that, 0 for moved.
-#[derive(Clone, Copy)]
-pub struct Judged {
-    pub agrees: bool,
-    pub number: usize,
-}
 
 #[derive(Clone, Copy)]
 struct Asked {

@@ -2,6 +2,7 @@
 use crate::judge::Wanted;
 use crate::{before, counts, judge, tables};
 use cases::octets::least;
+use cases::program::Judged;
 use cases::{drawing, octets, reading};
 
 // Rule and seed of the tables, own station, and how much of M, D, the reply buffer and the frame is lent.
@@ -14,13 +15,6 @@ struct Asked {
     own: u32,
     reply: usize,
     frame: usize,
-}
-
-// What came of a case: whether the call gave what is wanted, and the count of its answer.
-#[derive(Clone, Copy)]
-pub struct Judged {
-    pub agrees: bool,
-    pub sort: usize,
 }
 
 fn read_asked(fd: i32) -> Asked {
@@ -59,7 +53,7 @@ fn called(
     let sums = (octets::checksum(m) == w.m_sum) & (octets::checksum(reply) == w.reply_sum);
     Judged {
         agrees: judge::same_answer(a, w) & sums,
-        sort: counts::sort(a, reply),
+        number: counts::sort(a, reply),
     }
 }
 
@@ -92,6 +86,6 @@ pub fn next(fd: i32, m: &mut [u8], d: &mut [i16], e: &mut [i16]) -> Judged {
     let c = part_called(a, w, &f, m, d);
     Judged {
         agrees: c.agrees & judge::same_words(d, e),
-        sort: c.sort,
+        number: c.number,
     }
 }

@@ -8,42 +8,42 @@ mod counts;
 mod judge;
 mod tables;
 
-use cases::{reading, told};
-use std::fs;
-use std::os::fd::AsRawFd;
+use cases::program::{CaseFile, Cases};
+use cases::{program, told};
 
-// The n cases. The tables m and d are those of the case before, where a case says so; e is what d is wanted to be. Each answer is counted in met.
-fn section(fd: i32, n: usize, m: &mut [u8], d: &mut [i16], e: &mut [i16], met: &mut [usize; 30]) {
-    let mut differ: usize = 0;
-    for i in 0..n {
-        let c = case::next(fd, m, d, e);
-        told::one_more(met, c.sort);
-        if !c.agrees {
-            told::differs(b"request", i, differ);
-            differ += 1;
-        }
-    }
-    told::total(b"requests", n - differ, differ);
+// The tables m and d, which are those of the case before where a case says so; what d is wanted to be; how often each answer was met.
+#[derive(Drop)]
+struct Requests {
+    m: [u8; 512],
+    d: [i16; 8192],
+    wanted: [i16; 8192],
+    met: [usize; 30],
 }
 
-fn run(fd: i32, n: usize) {
-    let mut m = tables::bytes();
-    let mut d = tables::words();
-    let mut e = tables::words();
-    let mut met = [0usize; 30];
-    section(fd, n, &mut m, &mut d, &mut e, &mut met);
-    counts::tell(&met);
-    told::ended(reading::at_end(fd));
+impl Cases for Requests {
+    fn next(&mut self, fd: i32) -> bool {
+        let c = case::next(fd, &mut self.m, &mut self.d, &mut self.wanted);
+        told::one_more(&mut self.met, c.number);
+        c.agrees
+    }
+
+    fn tell(&self) {
+        counts::tell(&self.met);
+    }
 }
 
 fn main(rt: HostRuntime) -> std::io::Result<()> {
-    let name = "requests.bin";
-    match fs::open(&rt, name) {
-        Ok(file) => {
-            let fd = file.as_raw_fd();
-            run(fd, reading::head(fd, 7));
-            Ok(())
-        }
-        Err(e) => told::failed(&rt, name, &e),
-    }
+    let mut requests = Requests {
+        m: tables::bytes(),
+        d: tables::words(),
+        wanted: tables::words(),
+        met: [0; 30],
+    };
+    let file = CaseFile {
+        name: "requests.bin",
+        kind: 7,
+        one: b"request",
+        all: b"requests",
+    };
+    program::run(&rt, file, &mut requests)
 }

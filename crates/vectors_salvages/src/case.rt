@@ -1,16 +1,9 @@
 // A case: the torn file, how the output is made beforehand, what is wanted.
 use cases::octets::least;
+use cases::program::Judged;
 use cases::{drawing, octets, reading};
 use ec20::Refusal;
 use torn::Saved;
-
-// What came of a case: whether the salvage gave what is wanted, and which answer that is: 0 done with the END that was found, 17 with one that was added, else
-// the number of the refusal.
-#[derive(Clone, Copy)]
-pub struct Judged {
-    pub agrees: bool,
-    pub answer: usize,
-}
 
 #[derive(Clone, Copy)]
 struct Asked {
@@ -90,6 +83,7 @@ fn part_agrees(a: Asked, want: Wanted, file: &[u8], n: usize) -> bool {
     agrees(a, want, &file[..bytes], &mut out[..size])
 }
 
+// Which answer that is: 0 done with the END that was found, 17 with one that was added, else the number of the refusal.
 fn answer(number: usize, added: usize) -> usize {
     if (number == 0) & (added == 1) {
         17
@@ -104,6 +98,6 @@ pub fn next(fd: i32, file: &[u8; 65536], n: usize) -> Judged {
     let want = read_wanted(fd);
     Judged {
         agrees: part_agrees(a, want, file, n),
-        answer: answer(want.number, want.added),
+        number: answer(want.number, want.added),
     }
 }

@@ -4,50 +4,44 @@
 
 mod case;
 
-use cases::{reading, told};
-use std::fs;
-use std::os::fd::AsRawFd;
+use cases::program::{CaseFile, Cases};
+use cases::{program, reading, told};
 
-// The n cases. The file is that of the case before, where a case says so. Each wanted answer is counted in met.
-fn section(fd: i32, n: usize, file: &mut [u8; 65536], met: &mut [usize; 18]) {
-    let mut differ: usize = 0;
-    let mut size: usize = 0;
-    for i in 0..n {
-        size = reading::file_field(fd, file, size);
-        let c = case::next(fd, file, size);
-        told::one_more(met, c.answer);
-        if !c.agrees {
-            told::differs(b"salvage", i, differ);
-            differ += 1;
-        }
+// The file, which is that of the case before where a case says so, and its size. How often each answer was wanted.
+#[derive(Drop)]
+struct Salvages {
+    file: [u8; 65536],
+    size: usize,
+    met: [usize; 18],
+}
+
+impl Cases for Salvages {
+    fn next(&mut self, fd: i32) -> bool {
+        self.size = reading::file_field(fd, &mut self.file, self.size);
+        let c = case::next(fd, &self.file, self.size);
+        told::one_more(&mut self.met, c.number);
+        c.agrees
     }
-    told::total(b"salvages", n - differ, differ);
-}
 
-// How often each answer was wanted.
-fn counts(met: &[usize; 18]) {
-    told::line(b"done, END found", met[0]);
-    told::line(b"done, END added", met[17]);
-    told::line(b"refusal 1", met[1]);
-    told::line(b"refusal 16", met[16]);
-}
-
-fn run(fd: i32, n: usize) {
-    let mut file = io::large_buffer();
-    let mut met = [0usize; 18];
-    section(fd, n, &mut file, &mut met);
-    counts(&met);
-    told::ended(reading::at_end(fd));
+    fn tell(&self) {
+        told::line(b"done, END found", self.met[0]);
+        told::line(b"done, END added", self.met[17]);
+        told::line(b"refusal 1", self.met[1]);
+        told::line(b"refusal 16", self.met[16]);
+    }
 }
 
 fn main(rt: HostRuntime) -> std::io::Result<()> {
-    let name = "salvages.bin";
-    match fs::open(&rt, name) {
-        Ok(file) => {
-            let fd = file.as_raw_fd();
-            run(fd, reading::head(fd, 12));
-            Ok(())
-        }
-        Err(e) => told::failed(&rt, name, &e),
-    }
+    let mut salvages = Salvages {
+        file: io::large_buffer(),
+        size: 0,
+        met: [0; 18],
+    };
+    let file = CaseFile {
+        name: "salvages.bin",
+        kind: 12,
+        one: b"salvage",
+        all: b"salvages",
+    };
+    program::run(&rt, file, &mut salvages)
 }

@@ -10,49 +10,43 @@ mod lent;
 mod tables;
 mod told;
 
-use cases::reading;
-use std::fs;
-use std::os::fd::AsRawFd;
+use cases::program::{CaseFile, Cases};
+use cases::{program, reading};
 
-// The n cases. The file and the image are those of the case before, where a case says so.
-fn section(
-    fd: i32,
-    n: usize,
-    file: &mut [u8; 65536],
-    image: &mut [u8; 16892],
-    met: &mut [usize; 18],
-) {
-    let mut differ: usize = 0;
-    let mut size: usize = 0;
-    for i in 0..n {
-        size = reading::file_field(fd, file, size);
-        let c = case::next(fd, file, size, image);
-        counts::add(met, c.want, c.budget);
-        if !c.agrees {
-            cases::told::differs(b"scan", i, differ);
-            differ += 1;
-        }
-    }
-    cases::told::total(b"scans", n - differ, differ);
+// The file, its size and the image, which are those of the case before where a case says so, and how often each kind of case was met.
+#[derive(Drop)]
+struct Scans {
+    file: [u8; 65536],
+    size: usize,
+    image: [u8; 16892],
+    met: [usize; 18],
 }
 
-fn run(fd: i32, n: usize) {
-    let mut file = io::large_buffer();
-    let mut image = tables::image();
-    let mut met = [0usize; 18];
-    section(fd, n, &mut file, &mut image, &mut met);
-    told::counts(&met);
-    cases::told::ended(reading::at_end(fd));
+impl Cases for Scans {
+    fn next(&mut self, fd: i32) -> bool {
+        self.size = reading::file_field(fd, &mut self.file, self.size);
+        let c = case::next(fd, &self.file, self.size, &mut self.image);
+        counts::add(&mut self.met, c.want, c.budget);
+        c.agrees
+    }
+
+    fn tell(&self) {
+        told::counts(&self.met);
+    }
 }
 
 fn main(rt: HostRuntime) -> std::io::Result<()> {
-    let name = "scans.bin";
-    match fs::open(&rt, name) {
-        Ok(file) => {
-            let fd = file.as_raw_fd();
-            run(fd, reading::head(fd, 3));
-            Ok(())
-        }
-        Err(e) => cases::told::failed(&rt, name, &e),
-    }
+    let mut scans = Scans {
+        file: io::large_buffer(),
+        size: 0,
+        image: tables::image(),
+        met: [0; 18],
+    };
+    let file = CaseFile {
+        name: "scans.bin",
+        kind: 3,
+        one: b"scan",
+        all: b"scans",
+    };
+    program::run(&rt, file, &mut scans)
 }

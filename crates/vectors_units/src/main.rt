@@ -10,55 +10,50 @@ mod spelt;
 mod tables;
 mod texts;
 
-use crate::counts::Judged;
-use cases::{reading, told};
-use std::fs;
+use cases::program::{CaseFile, Cases};
+use cases::{program, told};
 use std::fs::File;
-use std::os::fd::AsRawFd;
 use std::rt::Files;
 
-// The next case of a file of this kind.
-fn next(fd: i32, kind: usize) -> Judged {
-    match kind {
-        8 => lists::next(fd),
-        9 => texts::next(fd),
-        _ => spelt::next(fd),
+// The number of the file's kind, and how often each answer and each sort of list was met.
+#[derive(Drop)]
+struct Units {
+    kind: usize,
+    met: [usize; 20],
+}
+
+impl Cases for Units {
+    fn next(&mut self, fd: i32) -> bool {
+        let c = match self.kind {
+            8 => lists::next(fd),
+            9 => texts::next(fd),
+            _ => spelt::next(fd),
+        };
+        told::one_more(&mut self.met, c.answer);
+        told::one_more(&mut self.met, c.list);
+        c.agrees
+    }
+
+    fn tell(&self) {
+        counts::tell(self.kind, &self.met);
     }
 }
 
-// The n cases of a kind, which are called so. Each is counted in met.
-fn section(fd: i32, kind: usize, n: usize, kinds: &[u8], met: &mut [usize; 20]) {
-    let mut differ: usize = 0;
-    for i in 0..n {
-        let c = next(fd, kind);
-        told::one_more(met, c.answer);
-        told::one_more(met, c.list);
-        if !c.agrees {
-            told::differs(kinds, i, differ);
-            differ += 1;
-        }
-    }
-    told::total(kinds, n - differ, differ);
-}
-
-// A case file.
+// The case file of a kind.
 fn run(
     rt: &(impl Files<File = File> + Eprint + Alloc),
     name: &str,
     kind: usize,
-    kinds: &[u8],
+    all: &[u8],
 ) -> std::io::Result<()> {
-    match fs::open(rt, name) {
-        Ok(file) => {
-            let fd = file.as_raw_fd();
-            let mut met = [0usize; 20];
-            section(fd, kind, reading::head(fd, kind), kinds, &mut met);
-            counts::tell(kind, &met);
-            told::ended(reading::at_end(fd));
-            Ok(())
-        }
-        Err(e) => told::failed(rt, name, &e),
-    }
+    let file = CaseFile {
+        name,
+        kind,
+        one: all,
+        all,
+    };
+    let mut units = Units { kind, met: [0; 20] };
+    program::run(rt, file, &mut units)
 }
 
 fn main(rt: HostRuntime) -> std::io::Result<()> {

@@ -1,6 +1,6 @@
 -- As many cases differ as were run, at most. Assumes nothing.
 use Prim.Native.Nat.{◌≤◌}
-use Rattle.vectors_checks.proofs.section.Given as goal
+use Rattle.cases.proofs.program.section.Given as goal
 
 abbrev pub invariant-loop-i : goal.invariant-loop-i
-invariant-loop-i l = l.differ ≤ l.i
+invariant-loop-i g l = l.differ ≤ l.i

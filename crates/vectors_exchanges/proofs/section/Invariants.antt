@@ -1,6 +1,0 @@
--- As many cases differ as were run, at most. Assumes nothing.
-use Prim.Native.Nat.{◌≤◌}
-use Rattle.vectors_exchanges.proofs.section.Given as goal
-
-abbrev pub invariant-loop-i : goal.invariant-loop-i
-invariant-loop-i l = l.differ ≤ l.i
