@@ -1,5 +1,8 @@
 // The story of the mixer, whose program is in examples/, up to its trial: what it uses, what two units declare, and the move of the block as one of them
 // declares it, which is refused.
+ghost use Rattle.calls.specs.declared.results.Status.TheVariants.{Answered};
+ghost use Rattle.std.specs.Prelude.{◌≢◌, IfErr};
+
 use calls::output::{Descriptor, Outputs};
 use calls::results::Outcome;
 use calls::{files, results, text};
@@ -93,7 +96,9 @@ pub fn begin(
     old: &[u8],
     new: &mut [u8],
     to: Outputs,
-) -> Result<fmt::Result, Outcome> {
+) -> Result<fmt::Result, Outcome>
+    ensures { IfErr result (λ o. o.status ≢ Answered) }
+{
     let mapped = match usemap::use_map(old) {
         Ok(m) => tell_map(m, to.out),
         Err(refusal) => return Err(report::refused(text::word(call, 1), old, refusal, to)),

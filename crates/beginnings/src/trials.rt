@@ -1,8 +1,9 @@
 // trial OLD START LENGTH POOLSTART POOLEND MEMORY SCANS: a move tried out in memory. Here is what comes ahead of the first scan: the files are read, the
 // program is moved in a copy, and the move is told. demo FILE MEMORY UNITS: the same for the mixer, after the story of it.
-ghost use Rattle.std.specs.Prelude.{◌≡◌, ◌<◌, ◌≤◌, ◌↔◌, length, take, ◌≢◌, Ok, IsOk, IfOk, IsTrue};
+ghost use Rattle.std.specs.Prelude.{◌≡◌, ◌<◌, ◌≤◌, ◌↔◌, length, take, ◌≢◌, Ok, IsOk, IfOk, IfErr, IsTrue};
 ghost use Rattle.beginnings.specs.Tried.{Named, all_named, of_mixer};
 ghost use Rattle.calls.specs.declared.names.Command.TheVariants.{Demo};
+ghost use Rattle.calls.specs.declared.results.Status.TheVariants.{Answered};
 ghost use Rattle.ec20.specs.Move.{block};
 ghost use Rattle.turns.specs.Turns.{MovedTo};
 
@@ -108,7 +109,9 @@ fn refuse(
     memory: Result<(), Unfit>,
     refusal: Refusal,
     to: Outputs,
-) -> Outcome {
+) -> Outcome
+    ensures { result.status ≢ Answered }
+{
     match memory {
         Err(unfit) if refusal.number >= 9 => {
             let nine = Refusal { number: 9, at: 0 };
@@ -148,7 +151,8 @@ fn move_copy(
     to: Outputs,
 ) -> Result<Begun, Outcome>
     requires { new.old ≡ old.now }
-    ensures { IfOk result (λ b. MovedTo old.now (block b.way.start b.way.length) b.way.place new.new × (b.n ≡ length old.now)) }
+    ensures moved { IfOk result (λ b. MovedTo old.now (block b.way.start b.way.length) b.way.place new.new × (b.n ≡ length old.now)) }
+    ensures stopped { IfErr result (λ o. o.status ≢ Answered) }
 {
     let place = match mover::move_block(new, t.start, t.length, t.pool_start, t.pool_end) {
         Ok(place) => word_at(place),
@@ -187,7 +191,8 @@ fn copied(
     to: Outputs,
 ) -> Result<Begun, Outcome>
     requires { length old.now ≤ length new.old }
-    ensures { IfOk result (λ b. MovedTo old.now (block b.way.start b.way.length) b.way.place (take b.n new.new) × (b.n ≡ length old.now)) }
+    ensures moved { IfOk result (λ b. MovedTo old.now (block b.way.start b.way.length) b.way.place (take b.n new.new) × (b.n ≡ length old.now)) }
+    ensures stopped { IfErr result (λ o. o.status ≢ Answered) }
 {
     let n = old.len();
     new[..n].copy_from_slice(old);
@@ -205,7 +210,8 @@ fn told(
     to: Outputs,
 ) -> Result<Begun, Outcome>
     requires { length old.now ≤ length new.old }
-    ensures { IfOk result (λ b. MovedTo old.now (block b.way.start b.way.length) b.way.place (take b.n new.new) × (b.n ≡ length old.now)) }
+    ensures moved { IfOk result (λ b. MovedTo old.now (block b.way.start b.way.length) b.way.place (take b.n new.new) × (b.n ≡ length old.now)) }
+    ensures stopped { IfErr result (λ o. o.status ≢ Answered) }
 {
     let mut ahead = Ok(());
     if t.told {
@@ -227,13 +233,14 @@ fn part(
 ) -> Result<Begun, Outcome>
     requires old_bound { n ≤ length old.now }
     requires new_bound { length old.now ≤ length new.old }
-    ensures { IfOk result (λ b. MovedTo (take b.n old.now) (block b.way.start b.way.length) b.way.place (take b.n new.new)) }
+    ensures moved { IfOk result (λ b. MovedTo (take b.n old.now) (block b.way.start b.way.length) b.way.place (take b.n new.new)) }
+    ensures stopped { IfErr result (λ o. o.status ≢ Answered) }
 {
     told(rt, call, &old[..n], new, memory, t, to)
 }
 
 // Afterwards the old program is at the start of its buffer, the new one of its own, and the memory file of its own. Where the scans follow, the move was
-// accepted: the new program is the old one with the block at its place. Else it is told what came of the call.
+// accepted: the new program is the old one with the block at its place. Else it is told what came of the call, which then counts as refused or not tried.
 pub fn begin(
     rt: &impl Files,
     call: &[u8],
@@ -243,7 +250,8 @@ pub fn begin(
     memory: &mut [u8; 65536],
     to: Outputs,
 ) -> Result<Begun, Outcome>
-    ensures { IfOk result (λ b. MovedTo (take b.n old.new) (block b.way.start b.way.length) b.way.place (take b.n new.new)) }
+    ensures moved { IfOk result (λ b. MovedTo (take b.n old.new) (block b.way.start b.way.length) b.way.place (take b.n new.new)) }
+    ensures stopped { IfErr result (λ o. o.status ≢ Answered) }
 {
     match scans::load(rt, call, t.memory_word, to.err, old, memory) {
         Ok(sizes) => {
