@@ -54,53 +54,68 @@ fn open_update<R: Files>(rt: &R, path: &[u8]) -> Result<R::File> {
     how.open(rt, text_of(path)?)
 }
 
-// Reads until the buffer is full or the file ends. Answers how many bytes stand at its start.
-fn read_full(file: &mut impl Read, buf: &mut [u8]) -> Result<usize>
-    ensures { IfOk result (λ n. IsPrefixLen n buf.new) }
+// Reads until the buffer is full, the file ends or a read fails. Answers how many bytes stand at its start.
+fn read_full(file: &mut impl Read, buf: &mut [u8]) -> usize
+    ensures { IsPrefixLen result buf.new }
 {
     let mut done = 0;
     while done < buf.len() {
-        let n = file.read(&mut buf[done..])?;
-        if n == 0 {
-            break;
+        match file.read(&mut buf[done..]) {
+            Ok(0) | Err(_) => break,
+            Ok(n) => done += n,
         }
-        done += n;
     }
-    Ok(done)
+    done
 }
 
-// The next bytes are read and forgotten. Answers how many there were, 0 at the end.
-fn pass_over(file: &mut impl Read) -> Result<usize> {
+// Fewer bytes than the buffer holds come both where a file ends and where a read fails. One more read tells the two apart: it fails, or finds no byte at
+// the end.
+fn at_end(file: &mut impl Read) -> Result<()> {
+    let mut one = [0u8; 1];
+    match file.read(&mut one)? {
+        0 => Ok(()),
+        _ => Err(Error::from(ErrorKind::Other)),
+    }
+}
+
+// The next bytes are read and forgotten. Answers how many there were, 0 at the end or where a read fails.
+fn pass_over(file: &mut impl Read) -> usize {
     let mut passed = io::large_buffer();
     read_full(file, &mut passed)
 }
 
-// Reads on to the end, and answers how many bytes there were. No file is so long that its turns end first.
-fn read_on(file: &mut impl Read) -> Result<usize> {
+// Reads on until the file ends or a read fails, and answers how many bytes there were. No file is so long that its turns end first.
+fn read_on(file: &mut impl Read) -> usize {
     let mut more: usize = 0;
     for _turn in 0..u32::MAX {
-        let n = pass_over(file)?;
+        let n = pass_over(file);
         if n == 0 {
             break;
         }
         more = more.wrapping_add(n);
     }
-    Ok(more)
+    more
 }
 
+// What a full buffer does not hold is not looked at.
 fn read_start(rt: &impl Files, path: &[u8], buf: &mut [u8; 65536]) -> Result<usize>
     ensures { IfOk result (λ n. IsPrefixLen n buf.new) }
 {
     let mut file = open_read(rt, path)?;
-    read_full(&mut file, buf)
+    let n = read_full(&mut file, buf);
+    if n < 65536 {
+        at_end(&mut file)?;
+    }
+    Ok(n)
 }
 
 fn read_long(rt: &impl Files, path: &[u8], buf: &mut [u8; 65536]) -> Result<Loaded>
     ensures { IfOk result (λ loaded. IsPrefixLen loaded.n buf.new) }
 {
     let mut file = open_read(rt, path)?;
-    let n = read_full(&mut file, buf)?;
-    let more = read_on(&mut file)?;
+    let n = read_full(&mut file, buf);
+    let more = read_on(&mut file);
+    at_end(&mut file)?;
     Ok(Loaded { n, more })
 }
 
