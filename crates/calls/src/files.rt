@@ -1,5 +1,5 @@
 // Files: reading one whole, and replacing one or two. A path is text: one that is no UTF-8 is told as one that cannot be read or written.
-ghost use Rattle.std.specs.Prelude.{◌≤◌, length, IfOk};
+ghost use Rattle.std.specs.Prelude.{◌≡◌, ◌<◌, ◌≤◌, length, take, IfOk};
 ghost use Rattle.io.specs.Counts.{IsPrefixLen};
 
 use crate::errors;
@@ -296,7 +296,9 @@ pub fn replace_two(
 // How much of a text that was read is judged: all, or of one that fills the buffer its whole lines. A list of 64 lines at most fills none, so that such a
 // text has more lines, or a misspelt one, and is refused in any case.
 pub fn kept(text: &[u8]) -> &[u8]
-    ensures { length result.now ≤ length text.now }
+    ensures no_longer { length result.now ≤ length text.now }
+    ensures beginning { result.now ≡ take (length result.now) text.now }
+    ensures short_whole { length text.now < 65536 → result.now ≡ text.now }
 {
     if text.len() < 65536 {
         return text;
