@@ -1,8 +1,14 @@
 -- What came of a call.
-use Rattle.std.specs.Prelude.{◌≡◌, Bool, ◌⊎◌, Result, Ok, Err}
+use Rattle.std.specs.Prelude.{◌≡◌, ℕ, Bool, ◌⊎◌, Result, Ok, Err}
 use Rattle.calls.specs.declared.results.Outcome.{Outcome}
-use Rattle.calls.specs.declared.results.Status.TheVariants.{NotTried}
+use Rattle.calls.specs.declared.results.Status.TheVariants.{Answered, Refused, NotTried}
 use Rattle.calls.specs.declared.results.Status.{Status}
+
+-- the status as a program's caller is told it: 0 of a call that was answered, 1 of one that was refused, or found to differ, 2 of one that was not tried
+abbrev pub number_of_status : Status → ℕ
+number_of_status Answered = 0
+number_of_status Refused = 1
+number_of_status NotTried = 2
 
 -- "written: whether all of the answer was. Where it was not, .. the answer counts for nothing": it is as one that was not tried
 abbrev pub status_by : {A E : Type 0} → Result A E → Status → Status

@@ -1,5 +1,5 @@
 // What came of a call.
-ghost use Rattle.calls.specs.Results.{status_by};
+ghost use Rattle.calls.specs.Results.{number_of_status, status_by};
 ghost use Rattle.calls.specs.declared.results.Status.TheVariants.{NotTried};
 ghost use Rattle.std.specs.Prelude.{◌≡◌, false};
 
@@ -17,7 +17,9 @@ pub enum Status {
 
 impl Status {
     // As the system's programs tell it.
-    fn number(self) -> u8 {
+    fn number(self) -> u8
+        ensures { result ≡ number_of_status self }
+    {
         match self {
             Status::Answered => 0,
             Status::Refused => 1,
