@@ -1,9 +1,12 @@
 // Which of two declarations clash, and the report of a list. A list is looked at by its pairs once (rows), and the report is made from what was found (told).
+// The pairs of a list that is lent as a slice are gone through in `lists`.
 #![tactic(auto)]
 
-ghost use Rattle.std.specs.Prelude.{ℕ, ◌+◌, ◌-◌, ◌<◌, ◌≤◌, ◌^◌, min, length, get_or, List, ◌++◌, ◌≡◌};
-ghost use Rattle.clashes.specs.Rows.{counted, right_block, grown_by, row_of, no_rows, with_row, rows_of, noted, pairs_in, pairs_from, told_of};
-ghost use Rattle.units.specs.Clash.{none, tabled, same_to, clash_of};
+pub mod lists;
+
+ghost use Rattle.std.specs.Prelude.{ℕ, ◌+◌, ◌-◌, ◌<◌, ◌≤◌, ◌^◌, length, List, ◌++◌, ◌≡◌};
+ghost use Rattle.clashes.specs.Rows.{right_block, grown_by, no_rows, with_row, noted, pairs_in, pairs_from, told_of};
+ghost use Rattle.units.specs.Clash.{tabled, same_to, clash_of};
 ghost use Rattle.units.specs.Report.{filled, reported, report_of};
 
 use ec20::Refusal;
@@ -24,7 +27,7 @@ pub fn same_name(a: [u8; 8], b: [u8; 8]) -> bool
 }
 
 // Whether two declarations clash.
-fn clash(a: Declaration, b: Declaration) -> bool
+pub fn clash(a: Declaration, b: Declaration) -> bool
     ensures { result ≡ clash_of a b }
 {
     if same_name(a.name, b.name) {
@@ -46,14 +49,14 @@ fn right_block(a: Declaration) -> bool
 }
 
 // A row with one place more ahead of it.
-fn grown(r: u64, c: bool) -> u64
+pub fn grown(r: u64, c: bool) -> u64
     requires { r < 2 ^ 63 }
     ensures { result ≡ grown_by r c }
 {
     if c { 1 + 2 * r } else { 2 * r }
 }
 
-fn no_rows() -> Rows
+pub fn no_rows() -> Rows
     ensures { result ≡ no_rows }
 {
     Rows {
@@ -63,7 +66,7 @@ fn no_rows() -> Rows
 }
 
 // The row of place i put to the others.
-fn with_row(r: Rows, i: usize, a: Declaration, row: u64) -> Rows
+pub fn with_row(r: Rows, i: usize, a: Declaration, row: u64) -> Rows
     requires { i < 64 }
     ensures { result ≡ with_row r i a row }
 {
@@ -71,30 +74,6 @@ fn with_row(r: Rows, i: usize, a: Declaration, row: u64) -> Rows
     s.right = r.right & right_block(a);
     s.of[i] = row;
     s
-}
-
-// The row of place i: its clashes with the places after it, up to place n, which is left out.
-fn row(list: &[Declaration], i: usize, n: usize) -> u64
-    requires { (i < n) × (n ≤ 64) × (n ≤ length list.now) }
-    ensures { (k : ℕ) → result ≡ row_of (counted k list.now) i (i + 1) (n - (i + 1)) }
-{
-    let mut r: u64 = 0;
-    for j in (i + 1..n).rev() {
-        r = grown(r, clash(list[i], list[j]));
-    }
-    r
-}
-
-// The rows of the first n places.
-fn rows_in(list: &[Declaration], n: usize) -> Rows
-    requires { (n ≤ 64) × (n ≤ length list.now) }
-    ensures { (k : ℕ) → result ≡ rows_of (counted k list.now) n n }
-{
-    let mut r = no_rows();
-    for i in 0..n {
-        r = with_row(r, i, list[i], row(list, i, n));
-    }
-    r
 }
 
 // Notes places i and j as number `at` of the report, if c holds. Answers the number that comes next.
@@ -141,7 +120,7 @@ fn tell_rows(report: &mut [[u32; 2]], of: [u64; 64], n: usize) -> usize
 }
 
 // The report of a list of n declarations, the first 64 of which have these rows.
-fn told(r: Rows, n: usize, report: &mut [[u32; 2]]) -> Result<usize, Refusal>
+pub fn told(r: Rows, n: usize, report: &mut [[u32; 2]]) -> Result<usize, Refusal>
     ensures { reported result report.new ≡ told_of r n report.old }
 {
     if !((n <= 64) & r.right) {
@@ -153,17 +132,9 @@ fn told(r: Rows, n: usize, report: &mut [[u32; 2]]) -> Result<usize, Refusal>
     Ok(tell_rows(report, r.of, n))
 }
 
-// The report of a list of n declarations, of which these are all, or the first 64 at least. One of over 64 is refused, so that no more of it is looked at.
-pub fn clashes_of(list: &[Declaration], n: usize, report: &mut [[u32; 2]]) -> Result<usize, Refusal>
-    requires { min n 64 ≤ length list.now }
-    ensures { reported result report.new ≡ report_of (counted n list.now) report.old }
-{
-    told(rows_in(list, n.min(64)), n, report)
-}
-
 // The report of the first n declarations of a table; a list of over 64 has its first 64 there, and is refused.
 pub fn clashes_in(t: Table, n: usize, report: &mut [[u32; 2]]) -> Result<usize, Refusal>
     ensures { reported result report.new ≡ report_of (tabled t n) report.old }
 {
-    clashes_of(&t.at, n, report)
+    lists::clashes_of(&t.at, n, report)
 }

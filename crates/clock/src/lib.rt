@@ -17,7 +17,14 @@ pub fn milliseconds(rt: &impl Clock) -> u64 {
 
 // Waits for about so many milliseconds, for at most 1,000 at a time.
 pub fn pause(rt: &impl Clock, ms: u64) {
-    thread::sleep(rt, Duration::from_millis(at_most_a_second(ms)));
+    short_wait(rt, at_most_a_second(ms));
+}
+
+// No wait is longer than a second.
+fn short_wait(rt: &impl Clock, ms: u64)
+    requires { ms ≤ 1000 }
+{
+    thread::sleep(rt, Duration::from_millis(ms));
 }
 
 fn at_most_a_second(ms: u64) -> u64

@@ -1,16 +1,17 @@
 // Numbers and declarations as they are spelt in a text. What is read is defined in the crate units, specs/Spelling.antt and specs/Text.antt.
 #![tactic(auto)]
 
+pub mod parts;
+
 ghost use Rattle.std.specs.Prelude.{◌<◌, length, ◌≡◌};
-ghost use Rattle.spelling.specs.Bounds.{NumberIn, PartIn, LineIn};
-ghost use Rattle.spelling.specs.Part.{part_at};
+ghost use Rattle.spelling.specs.Bounds.{NumberIn, LineIn};
 ghost use Rattle.units.specs.Spelling.{byte_in, digit_of, number_at};
 ghost use Rattle.units.specs.Text.{named, line_at};
 
 use units::{Digits, Line};
 
 // Byte i of a text, and 0 past its end.
-fn byte_in(s: &[u8], i: usize) -> u8
+pub fn byte_in(s: &[u8], i: usize) -> u8
     ensures { result ≡ byte_in s.now i }
 {
     s.get(i).copied().unwrap_or(0)
@@ -50,22 +51,6 @@ pub fn number(s: &[u8], from: usize, most: u64) -> Option<Digits>
     Some(d)
 }
 
-// The number at a place, and behind it the byte `end`, which is not 0. The place after both.
-pub fn part(s: &[u8], from: usize, most: u64, end: u8) -> Option<Digits>
-    requires { 0 < end }
-    ensures value { result ≡ part_at s.now from most end }
-    ensures part_in { PartIn (length s.now) from most result }
-{
-    let d = number(s, from, most)?;
-    if byte_in(s, d.next) != end {
-        return None;
-    }
-    Some(Digits {
-        value: d.value,
-        next: d.next + 1,
-    })
-}
-
 // Whether a name stands at a place: eight bytes, none of them a line feed, and a blank.
 fn name_at(s: &[u8], from: usize) -> bool
     ensures { result ≡ named s.now from }
@@ -89,8 +74,8 @@ pub fn line(s: &[u8], from: usize, most: u64) -> Option<Line>
     if !name_at(s, from) {
         return None;
     }
-    let start = part(s, from + 9, most, b' ')?;
-    let length = part(s, start.next, most, b'\n')?;
+    let start = parts::part(s, from + 9, most, b' ')?;
+    let length = parts::part(s, start.next, most, b'\n')?;
     Some(Line {
         start: start.value,
         length: length.value,

@@ -12,5 +12,5 @@ use units::Declaration;
 pub fn clashes(list: &[Declaration], report: &mut [[u32; 2]]) -> Result<usize, Refusal>
     ensures { reported result report.new ≡ report_of (listed list.now) report.old }
 {
-    clashes::clashes_of(list, list.len(), report)
+    clashes::lists::clashes_of(list, list.len(), report)
 }

@@ -4,7 +4,7 @@ use lib.ListN.{get_or}
 use Rattle.units.specs.Clash.{none}
 use Rattle.clashes.specs.Rows.{counted, with_row, rows_of}
 use Rattle.clashes.proofs.RowLaws.{rows_none, rows_more}
-use Rattle.clashes.proofs.rows_in.Goals as goal
+use Rattle.clashes.proofs.lists.rows_in.Goals as goal
 
 pub loop-i-init : goal.loop-i-init
 loop-i-init c k = rows_none _ _ _ c.no_rows-r.ensures

@@ -4,7 +4,7 @@ use native.Mathlib.Omega.{arith}
 use borrow.Author.Rules.{rules}
 use Rattle.clashes.specs.Rows.{counted, row_of}
 use Rattle.clashes.proofs.RowLaws.{row-none, row-turn, row_fits}
-use Rattle.clashes.proofs.row.Goals as goal
+use Rattle.clashes.proofs.lists.row.Goals as goal
 
 pub loop-j-init : goal.loop-j-init
 loop-j-init c = (search rules, λ k. row-none _ _ _ _ (omega arith))

@@ -1,6 +1,6 @@
 use Rattle.clashes.specs.Rows.{counted}
 use Rattle.clashes.proofs.Reports.{by_rows}
-use Rattle.clashes.proofs.clashes_of.Goals as goal
+use Rattle.clashes.proofs.lists.clashes_of.Goals as goal
 
 pub returns : goal.returns
 returns c =
