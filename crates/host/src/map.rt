@@ -18,20 +18,11 @@ pub extern "C" fn ninhalto_map(
     ensures read_after { read.new ≡ (told_by_map ec20 (use_map_of f.now)).read }
     ensures written_after { written.new ≡ (told_by_map ec20 (use_map_of f.now)).written }
 {
-    match usemap::use_map(f) {
-        Ok(m) => {
-            *number = 0;
-            *at = 0;
-            let r = m.read;
-            let w = m.written;
-            *read = r;
-            *written = w;
-        }
-        Err(refusal) => {
-            *number = refusal.number;
-            *at = refusal.at;
-            *read = [0; 1000];
-            *written = [0; 1000];
-        }
-    }
+    let m = usemap::told(usemap::use_map(f));
+    *number = m.number;
+    *at = m.at;
+    let r = m.read;
+    let w = m.written;
+    *read = r;
+    *written = w;
 }

@@ -1,6 +1,7 @@
 // The use map: which of the 8,000 D words an accepted program reads, and which it writes, two maps of 1,000 bytes by value.
 #![tactic(auto)]
 
+ghost use Rattle.ec20.specs.Answers.{told_by_map};
 ghost use Rattle.ec20.specs.Devices.{ec20};
 ghost use Rattle.ec20.specs.File.{records_from};
 ghost use Rattle.ec20.specs.Roles.{is_read, is_written};
@@ -80,4 +81,36 @@ pub fn use_map(file: &[u8]) -> Result<UseMap, Refusal>
     let Frame { first, count } = checker::accept(file)?;
     let rows = instructions::table();
     Ok(map_by(&rows, file, first, count))
+}
+
+// What a host is told of a map: the number of the refusal (0: none) and the record told, and the two maps (all 0: refused).
+#[derive(Clone, Copy)]
+pub struct ToldMap {
+    pub number: usize,
+    pub at: usize,
+    pub read: [u8; 1000],
+    pub written: [u8; 1000],
+}
+
+// What is told of the answer that a file's use map is.
+pub fn told(m: Result<UseMap, Refusal>) -> ToldMap
+    ensures number_told { result.number ≡ (told_by_map ec20 m).number }
+    ensures at_told { result.at ≡ (told_by_map ec20 m).at }
+    ensures read_told { result.read ≡ (told_by_map ec20 m).read }
+    ensures written_told { result.written ≡ (told_by_map ec20 m).written }
+{
+    match m {
+        Ok(u) => ToldMap {
+            number: 0,
+            at: 0,
+            read: u.read,
+            written: u.written,
+        },
+        Err(r) => ToldMap {
+            number: r.number,
+            at: r.at,
+            read: [0; 1000],
+            written: [0; 1000],
+        },
+    }
 }

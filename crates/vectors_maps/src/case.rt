@@ -31,7 +31,7 @@ fn wanted(fd: i32, read: &mut [u8; 1000], written: &mut [u8; 1000]) {
     }
 }
 
-// The map of the file is the one wanted.
+// What is told of the file's map is what is wanted.
 fn agrees(
     file: &[u8],
     number: usize,
@@ -39,13 +39,8 @@ fn agrees(
     read: &[u8; 1000],
     written: &[u8; 1000],
 ) -> bool {
-    match usemap::use_map(file) {
-        Ok(m) => { (number == 0) & (record == 0) & (m.read == *read) & (m.written == *written) }
-        Err(r) => {
-            let none = unmarked();
-            (r.number == number) & (r.at == record) & (*read == none) & (*written == none)
-        }
-    }
+    let m = usemap::told(usemap::use_map(file));
+    (m.number == number) & (m.at == record) & (m.read == *read) & (m.written == *written)
 }
 
 fn part_agrees(
