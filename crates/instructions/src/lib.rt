@@ -328,7 +328,7 @@ const TABLE: [Row; 56] = [
 ];
 
 // The table, made once by whoever looks rows up and then lent: the compiler would else make it anew at each look-up.
-#[derive(Drop)]
+#[derive(Clone, Copy)]
 pub struct RowTable {
     rows: [Row; 56],
     pub ghost told: { rows ≡ table },
