@@ -1,6 +1,6 @@
 -- The checker's test and what is kept; the file that is written
 mod Judged
 mod Keeping
-mod Placed
+mod Copied
 mod Written
 mod Answered

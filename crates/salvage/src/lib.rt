@@ -45,12 +45,14 @@ fn keep(rows: &RowTable, t: &[u8], n: usize) -> Kept
     Kept { count: n, added: 1 }
 }
 
-// These bytes in the output, from byte `at` on.
+// These bytes in the output, from byte `at` on. A loop, since `copy_from_slice` of a length that is not fixed has the library call memmove.
 fn put(out: &mut [u8], at: usize, s: &[u8])
     requires { at + length s.now ≤ length out.old }
     ensures { out.new ≡ over at s.now out.old }
 {
-    out[at..at + s.len()].copy_from_slice(s);
+    for k in 0..s.len() {
+        out[at + k] = s[k];
+    }
 }
 
 // The END record.
