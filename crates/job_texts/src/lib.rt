@@ -28,9 +28,9 @@ fn job_line(s: &[u8], from: usize) -> Option<JobLine>
     ensures value { result ≡ job_line_at s.now from }
     ensures job_line_in { JobLineIn (length s.now) from result }
 {
-    let start = spelling::parts::part(s, from, 4294967295, b' ')?;
-    let length = spelling::parts::part(s, start.next, 4294967295, b' ')?;
-    let place = spelling::parts::part(s, length.next, 4294967295, b'\n')?;
+    let start = spelling::ended::part(s, from, 4294967295, b' ')?;
+    let length = spelling::ended::part(s, start.next, 4294967295, b' ')?;
+    let place = spelling::ended::part(s, length.next, 4294967295, b'\n')?;
     Some(JobLine {
         start: start.value,
         length: length.value,

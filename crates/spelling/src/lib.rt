@@ -1,7 +1,7 @@
 // Numbers and declarations as they are spelt in a text. What is read is defined in the crate units, specs/Spelling.antt and specs/Text.antt.
 #![tactic(auto)]
 
-pub mod parts;
+pub mod ended;
 
 ghost use Rattle.std.specs.Prelude.{◌<◌, length, ◌≡◌};
 ghost use Rattle.spelling.specs.Bounds.{NumberIn, LineIn};
@@ -74,8 +74,8 @@ pub fn line(s: &[u8], from: usize, most: u64) -> Option<Line>
     if !name_at(s, from) {
         return None;
     }
-    let start = parts::part(s, from + 9, most, b' ')?;
-    let length = parts::part(s, start.next, most, b'\n')?;
+    let start = ended::part(s, from + 9, most, b' ')?;
+    let length = ended::part(s, start.next, most, b'\n')?;
     Some(Line {
         start: start.value,
         length: length.value,

@@ -68,7 +68,7 @@ fn unit_line(s: &[u8], from: usize) -> Option<UnitLine>
     ensures value { result ≡ unit_at s.now from }
     ensures unit_in { UnitIn (length s.now) from result }
 {
-    let unit = spelling::parts::part(s, from, 65535, b' ')?;
+    let unit = spelling::ended::part(s, from, 65535, b' ')?;
     let line = spelling::line(s, unit.next, 4294967295)?;
     Some(UnitLine {
         unit: unit.value,

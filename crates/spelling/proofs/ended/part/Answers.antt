@@ -1,7 +1,7 @@
 -- `spelling::part` meets its contract. Assumes nothing.
 use mathlib.Core.Path.{◌∙◌}
 use Rattle.spelling.proofs.Parts.{part-misspelt, part-unended, part-spelt}
-use Rattle.spelling.proofs.parts.part.Goals as goal
+use Rattle.spelling.proofs.ended.part.Goals as goal
 
 pub returns-in_err-d-clause-value : goal.returns-in_err-d-clause-value
 returns-in_err-d-clause-value c = c.from_residual.ensures ∙ part-misspelt _ _ _ _ _ c.number.ensures.value c.in_err-d.was
