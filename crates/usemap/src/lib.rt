@@ -100,17 +100,24 @@ pub fn told(m: Result<UseMap, Refusal>) -> ToldMap
     ensures written_told { result.written ≡ (told_by_map ec20 m).written }
 {
     match m {
-        Ok(u) => ToldMap {
-            number: 0,
-            at: 0,
-            read: u.read,
-            written: u.written,
-        },
-        Err(r) => ToldMap {
-            number: r.number,
-            at: r.at,
-            read: [0; 1000],
-            written: [0; 1000],
-        },
+        Ok(u) => {
+            let read = u.read;
+            let written = u.written;
+            ToldMap {
+                number: 0,
+                at: 0,
+                read,
+                written,
+            }
+        }
+        Err(r) => {
+            let none = [0u8; 1000];
+            ToldMap {
+                number: r.number,
+                at: r.at,
+                read: none,
+                written: none,
+            }
+        }
     }
 }
